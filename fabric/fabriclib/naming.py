@@ -20,7 +20,6 @@ CONDITIONS = {
     "q1": "an adjacency isn't as the link",
     "q2": "a frame is on its way",
     "q3": "an LSP or CSNP is due",
-    "q4": "two bodies under one LSP id",
 }
 
 

@@ -98,7 +98,7 @@ neighbours_given_carrier p zero port (x ∷ ports) is =
 neighbours_given_carrier p (suc i) port (x ∷ ports) is = ap (λ (list : List Neighbour). if is_port_up x then neighbour_in p x ∷ list else list) (neighbours_given_carrier (p + 1) i port ports is)
 
 -- the bridge has the same to say
-given_carrier_stands : (v : BridgeView) (q : ℕ) (port : BridgePort) → IsSaying v → slice_get v.ports (q - 1) ≡ Some port → with_carrier_at q true (Some port) v ≡ with_port_at q (given_carrier port) v
+pub given_carrier_stands : (v : BridgeView) (q : ℕ) (port : BridgePort) → IsSaying v → slice_get v.ports (q - 1) ≡ Some port → with_carrier_at q true (Some port) v ≡ with_port_at q (given_carrier port) v
 given_carrier_stands v q port says is =
     let w : BridgeView = with_port_at q (given_carrier port) v in
     ap (λ (did : AdjacencyChange). changed_at did q (given_carrier port) v) (carrier_is_kept port.adjacency)

@@ -12,7 +12,7 @@ use Rattle.network_model.specs.Counted.{IsCounted}
 use Rattle.network_model.specs.Quiet.{IsQuiet}
 use Rattle.network_model.specs.Truth.{IsAtRest}
 use Rattle.network_model.proofs.QuietLaws.{quiet_says}
-use Rattle.network_model.proofs.CountedEnds.{few_held}
+use Rattle.network_model.proofs.CountedEnds.{few_held, origins_give_one_body}
 
 -- no more is read than is held
 read_few : {X Y : Type 0} (f : X → Option Y) (xs : List X) → length (filter_map f xs) ≤ length xs
@@ -36,11 +36,10 @@ all_views P (v ∷ views) each = (each 0 v refl, all_views P views (λ i w at. e
 -- it is at rest
 pub at_rest : (s : State) → IsSoundState s → IsCounted s → IsQuiet s → IsAtRest s
 at_rest s sound counted quiet =
-    let says = (quiet_says s).quiet.0 quiet in
     record {
       sound = sound;
-      calm = says.0;
-      bodies = says.1;
+      calm = (quiet_says s).quiet.0 quiet;
+      bodies = origins_give_one_body s sound counted;
       fresh = counted.by.fresh;
       few = all_views (λ v. length (contents_of v) ≤ MOST_GRAPH_BRIDGES) s.views (λ i v at. contents_few s i v sound counted at);
     }

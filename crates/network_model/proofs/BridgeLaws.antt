@@ -2,9 +2,11 @@
 use Rattle.std.proofs.Common.{◌≡◌}
 use Rattle.itag_frames.proofs.ControlLaws.{control_again}
 use Rattle.bridge_api.specs.Laws.{ConfiguredIsSound, ConfiguredHasNoCarrier, StepsStaySound, StepsKeepBridge, StepsKeepCarrier, StepsKeepNeighbours, SentIsSound, OneHello, HellosAreHeard, UpPortsAreUp, StepsCarryDatabase}
+use Rattle.bridge_laws.specs.Advancing.{StepsAdvance}
 use Rattle.bridge_laws.specs.Brief.{SentIsBrief}
-use Rattle.bridge_laws.specs.Counting.{StepsHoldIds, StepsLearnVersions, StepsAnswer, StepsOriginate, StepsDontSpend, ConfiguredIsFar}
+use Rattle.bridge_laws.specs.Counting.{StepsHoldIds, StepsLearn, StepsLearnVersions, StepsAnswer, StepsOriginate, StepsDontSpend, ConfiguredIsFar}
 use Rattle.bridge_api.specs.Time.{SecondsAge}
+use Rattle.bridge_laws.proofs.Advancing as advancing
 use Rattle.bridge_laws.proofs.Answering as answering
 use Rattle.bridge_laws.proofs.Brief as brief
 use Rattle.bridge_api.proofs.Certified as certified
@@ -66,8 +68,14 @@ seconds_age = ages.seconds_age
 pub steps_hold_ids : StepsHoldIds
 steps_hold_ids = ids.steps_hold_ids
 
+pub steps_learn : StepsLearn
+steps_learn = learning.steps_learn
+
 pub steps_learn_versions : StepsLearnVersions
 steps_learn_versions = learning.steps_learn_versions
+
+pub steps_advance : StepsAdvance
+steps_advance = advancing.steps_advance
 
 pub steps_answer : StepsAnswer
 steps_answer = answering.steps_answer

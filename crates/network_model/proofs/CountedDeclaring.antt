@@ -1,5 +1,5 @@
 -- A bridge, a link or a VID more.
-use Rattle.std.proofs.Common.{◌≡◌, ◌≢◌, inl, inr, ◌≤◌, ◌<◌, ◌+◌, ℕ, zero, suc, Bool, true, false, List, [], ◌∷◌, ◌++◌, length, refl, sym, ap, ◌∙◌, subst, Option, Some, None, slice_get, arith}
+use Rattle.std.proofs.Common.{◌≡◌, ◌≢◌, ◌⊎◌, inl, inr, ◌≤◌, ◌<◌, ◌+◌, ℕ, zero, suc, Bool, true, false, List, [], ◌∷◌, ◌++◌, length, refl, sym, ap, ◌∙◌, subst, Option, Some, None, slice_get, arith}
 use Rattle.std.specs.Prelude.{◌==◌, if◌then◌else◌}
 use Rattle.std.specs.FinMap.{get}
 use Rattle.std.proofs.lemmas.Bool.{ne_eqb}
@@ -12,13 +12,16 @@ use Rattle.link_model.specs.declared.lanes.LinkLanes.{LinkLanes}
 use Rattle.link_model.specs.Lane.{Frame, IsIn}
 use Rattle.link_model.specs.Lanes.{no_frames, lane_of}
 use Rattle.lsdb.specs.declared.version.Version.{Version}
+use Rattle.lsdb.specs.declared.version.Version.TheVariants.{Absent, Live}
 use Rattle.lsdb.specs.Entry.{Entry}
 use Rattle.lsdb.specs.Version.{number_of}
 use Rattle.lsdb.specs.Database.{version_at, version_in}
 use Rattle.lsdb.proofs.LookupLemmas.{same_or_not}
 use Rattle.flooding.proofs.OwnNumbers.{some_number}
-use Rattle.flooding.specs.Own.{last_number, own_id, IsOwnNumber}
+use Rattle.flooding.specs.Own.{last_number, own_id, IsOwnNumber, body_in}
+use Rattle.flooding.specs.Advancing.{stays}
 use Rattle.bridge_api.specs.View.{BridgeView}
+use Rattle.bridge_api.specs.Parsing.{parsed}
 use Rattle.bridge_api.specs.Step.{metric}
 use Rattle.bridge_laws.proofs.HeldIds.{own_is}
 use Rattle.spb_world.specs.declared.declaration.DeclaredBridge.{DeclaredBridge}
@@ -28,6 +31,7 @@ use Rattle.spb_world.specs.Declaring.{with_bridge, with_link}
 use Rattle.network_model.specs.State.{State, Spare, links_of}
 use Rattle.network_model.specs.Events.{with_metric_at_end, with_metrics_over, switched_on}
 use Rattle.network_model.specs.Sound.{IsSoundState}
+use Rattle.network_model.specs.Copies.{IsText, text_held, text_sent, IsOrigin}
 use Rattle.network_model.specs.Counted.{IsCopy, is_held, is_said, hellos_to, IsOwnOf, IsWithin, IsCountedBy}
 use Rattle.spb_world.proofs.BoxLemmas.{All-get}
 use Rattle.spb_world.proofs.ListLemmas.{things_of-push, All-push}
@@ -35,6 +39,7 @@ use Rattle.spb_world.proofs.WorldLemmas.{IsNewBridge, Sound-with_bridge, IsNewLi
 use Rattle.network_model.proofs.SoundEvents.{core_of}
 use Rattle.network_model.proofs.SoundDeclaring.{got_push, lane-push, core_new_link}
 use Rattle.network_model.proofs.SoundLinks.{end_metric}
+use Rattle.network_model.proofs.Origins.{CopyStems, was, absent, TextStems, text_was, lsp_claims, first_moves, fewer_copies, fewer_origins, alone_origin}
 use Rattle.network_model.proofs.CountedMoves.{is_within, length-things, declared_at, systems_apart}
 use Rattle.network_model.proofs.CountedSteps.{weak_bound}
 use Rattle.network_model.proofs.CountedGains.{gain_at}
@@ -116,10 +121,14 @@ module _ (s : State) (n : ℕ) (rack : List Spare) (ticks : List ℕ) (name : Li
       ]
 
   -- of the ids of others it holds nothing
-  absent_new : (id : LspId) → id.system ≢ v.id.system → number_of (version_at v.database id) ≤ 0
-  absent_new id other =
-      let none : version_at v.database id ≡ version_in None = ap version_in (first.alone id (λ e. other (ap (λ (y : LspId). y.system) e))) in
-      let zero_there = ap number_of none in omega (arith, zero_there)
+  none_new : (id : LspId) → id.system ≢ v.id.system → get v.database id ≡ None
+  none_new id other = first.alone id (λ e. other (ap (λ (y : LspId). y.system) e))
+
+  -- no bridge from before originates what the new one does
+  ids_apart : (i : ℕ) (u : BridgeView) (id : LspId) → slice_get s.views i ≡ Some u → IsOwnNumber u.id.system id → id.system ≢ v.id.system
+  ids_apart i u id at own same =
+      let c = declared_at s i u (core_of s sound) at in
+      other_system i c.0 c.1 (sym (ap (λ (x : BridgeId). x.system) c.2) ∙ (sym (system_is u.id.system id own) ∙ same))
 
   weak_old : (i : ℕ) (u : BridgeView) (id : LspId) (m : ℕ) (a : Version) → slice_get s.views i ≡ Some u → IsOwnNumber u.id.system id → ((c : Version) → IsCopy s.views s.lanes id c → number_of c ≤ m) → IsCopy views s.lanes id a → number_of a ≤ m
   weak_old i u id m a at own weak (is_said k dir f among claimed) = weak a (is_said k dir f among claimed)
@@ -127,26 +136,70 @@ module _ (s : State) (n : ℕ) (rack : List Spare) (ticks : List ℕ) (name : Li
       elim (got_push s.views v j w at_j) [
         | inl old ↦ weak a (is_held j w old.1 is)
         | inr here ↦
-            let c = declared_at s i u (core_of s sound) at in
-            let other : id.system ≢ v.id.system = λ e. other_system i c.0 c.1 (sym (ap (λ (x : BridgeId). x.system) c.2) ∙ (sym (system_is u.id.system id own) ∙ e)) in
+            let none : version_at v.database id ≡ Absent = ap version_in (none_new id (ids_apart i u id at own)) in
             let same : version_at v.database id ≡ a = ap (λ (x : BridgeView). version_at x.database id) here.1 ∙ is in
-            let number = ap number_of same in
-            omega (arith, number, absent_new id other)
+            let number = ap number_of (sym same ∙ none) in
+            omega (arith, number)
       ]
 
-  nobody_else : (j : ℕ) (w : BridgeView) (id : LspId) (o : Option Entry) → slice_get s.views j ≡ Some w → IsOwnNumber v.id.system id → get w.database id ≡ o → number_of (version_in o) ≤ 0
-  nobody_else j w id None at own held = omega arith
-  nobody_else j w id (Some e) at own held = absurd (none_had id own (counted.held j w id e at held))
+  -- ---- the origins
+
+  copy_old : (i : ℕ) (u : BridgeView) (id : LspId) (a : Version) → slice_get s.views i ≡ Some u → IsOwnNumber u.id.system id → IsCopy views s.lanes id a → CopyStems s.views s.lanes id (get u.database id) a
+  copy_old i u id a at own (is_said k dir f among claimed) = was (is_said k dir f among claimed)
+  copy_old i u id a at own (is_held j w at_j is) =
+      elim (got_push s.views v j w at_j) [
+        | inl old ↦ was (is_held j w old.1 is)
+        | inr here ↦ absent (sym is ∙ (ap (λ (x : BridgeView). version_at x.database id) (sym here.1) ∙ ap version_in (none_new id (ids_apart i u id at own))))
+      ]
+
+  text_old : (i : ℕ) (u : BridgeView) (id : LspId) (n x : ℕ) (body : List ℕ) → slice_get s.views i ≡ Some u → IsOwnNumber u.id.system id → IsText views s.lanes id n x body → TextStems s.views s.lanes id (get u.database id) n x body
+  text_old i u id n x body at own (text_sent k dir f l among is same version kept) = text_was (text_sent k dir f l among is same version kept)
+  text_old i u id n x body at own (text_held j w e at_j held version kept) =
+      elim (got_push s.views v j w at_j) [
+        | inl old ↦ text_was (text_held j w e old.1 held version kept)
+        | inr here ↦
+            let none : get v.database id ≡ None = none_new id (ids_apart i u id at own) in
+            let some : get v.database id ≡ Some e = ap (λ (x : BridgeView). get x.database id) here.1 ∙ held in
+            absurd cc
+      ]
+
+  origin_old : (i : ℕ) (u : BridgeView) (id : LspId) → slice_get s.views i ≡ Some u → IsOwnNumber u.id.system id → IsOrigin views s.lanes id (get u.database id)
+  origin_old i u id at own =
+      first_moves s.views views s.lanes s.lanes i u id (get u.database id) at (counted.origins i u id at own) (stays refl refl) (λ a copy. copy_old i u id a at own copy) (λ n x body text. text_old i u id n x body at own text)
+
+  -- of an own id of the new bridge no other holds anything
+  nothing_held : (j : ℕ) (w : BridgeView) (id : LspId) (o : Option Entry) → slice_get s.views j ≡ Some w → IsOwnNumber v.id.system id → get w.database id ≡ o → o ≡ None
+  nothing_held j w id None at own held = refl
+  nothing_held j w id (Some e) at own held = absurd (none_had id own (counted.held j w id e at held))
+
+  copy_new : (id : LspId) (a : Version) → IsOwnNumber v.id.system id → IsCopy views s.lanes id a → (a ≡ version_at v.database id) ⊎ (a ≡ Absent)
+  copy_new id a own (is_said k dir f among claimed) = absurd (none_had id own (counted.said k dir f id a among claimed))
+  copy_new id a own (is_held j w at_j is) =
+      elim (got_push s.views v j w at_j) [
+        | inl old ↦ inr (sym is ∙ ap version_in (nothing_held j w id (get w.database id) old.1 own refl))
+        | inr here ↦ inl (sym is ∙ ap (λ (x : BridgeView). version_at x.database id) (sym here.1))
+      ]
+
+  text_new : (id : LspId) (n x : ℕ) (body : List ℕ) → IsOwnNumber v.id.system id → IsText views s.lanes id n x body → body_in (get v.database id) ≡ body
+  text_new id n x body own (text_sent k dir f l among is same version kept) = absurd (none_had id own (counted.said k dir f id (Live n x) among (lsp_claims (parsed f) id l (Live n x) is same version)))
+  text_new id n x body own (text_held j w e at_j held version kept) =
+      elim (got_push s.views v j w at_j) [
+        | inl old ↦ let none = nothing_held j w id (get w.database id) old.1 own refl in absurd cc
+        | inr here ↦ ap body_in (ap (λ (x : BridgeView). get x.database id) here.1 ∙ held) ∙ kept
+      ]
+
+  origin_new : (id : LspId) → IsOwnNumber v.id.system id → IsOrigin views s.lanes id (get v.database id)
+  origin_new id own = alone_origin views s.lanes id (get v.database id) (λ a copy. copy_new id a own copy) (λ n x body text. text_new id n x body own text)
+
+  -- ---- the numbers
 
   own_copies : (id : LspId) (a : Version) → IsOwnNumber v.id.system id → IsCopy views s.lanes id a → number_of a ≤ 1
-  own_copies id a own (is_said k dir f among claimed) = absurd (none_had id own (counted.said k dir f id a among claimed))
-  own_copies id a own (is_held j w at_j is) =
-      let number = ap number_of is in
-      elim (got_push s.views v j w at_j) [
-        | inl old ↦ let none = nobody_else j w id (get w.database id) old.1 own refl in omega (arith, number, none)
-        | inr here ↦
-            let same : version_at w.database id ≡ version_at v.database (own_id v.id.system) = λ k. version_at (sym here.1 k).database (own_is v.id.system id own k) in
-            let equal = ap number_of same in omega (arith, number, equal, first.own)
+  own_copies id a own copy =
+      elim (copy_new id a own copy) [
+        | inl is ↦
+            let same : a ≡ version_at v.database (own_id v.id.system) = is ∙ ap (λ (x : LspId). version_at v.database x) (own_is v.id.system id own) in
+            let number = ap number_of same in omega (arith, number, first.own)
+        | inr none ↦ let number = ap number_of none in omega (arith, number)
       ]
 
   ends_away : (k : ℕ) (l : DeclaredLink) → slice_get (links_of s) k ≡ Some l → (l.a.bridge ≢ length s.views) × (l.b.bridge ≢ length s.views)
@@ -164,6 +217,11 @@ module _ (s : State) (n : ℕ) (rack : List Spare) (ticks : List ℕ) (name : Li
           | inr here ↦ held_new id e (ap (λ (x : BridgeView). get x.database id) here.1 ∙ held)
         ];
     said = λ k dir f id a among claimed. own_old s.world.bridges name b id (counted.said k dir f id a among claimed);
+    origins = λ i u id at own.
+        elim (got_push s.views v i u at) [
+          | inl old ↦ origin_old i u id old.1 own
+          | inr here ↦ subst (λ (x : BridgeView). IsOrigin views s.lanes id (get x.database id)) here.1 (origin_new id (subst (λ (x : BridgeView). IsOwnNumber x.id.system id) (sym here.1) own))
+        ];
     bound = λ i u id at own.
         elim (got_push s.views v i u at) [
           | inl old ↦ within_old i u id old.1 own
@@ -212,6 +270,7 @@ module _ (s : State) (n : ℕ) (name : List ℕ) (l : DeclaredLink) (sound : IsS
       fresh = counted.fresh;
       held = counted.held;
       said = λ k dir f id a among claimed. counted.said k dir f id a (before k dir f among) claimed;
+      origins = fewer_origins s (s.lanes ++ no_frames ∷ []) before counted.origins;
     };
     weak = λ i v id at own.
         let within = counted.bound i v id at own in
@@ -219,17 +278,13 @@ module _ (s : State) (n : ℕ) (name : List ℕ) (l : DeclaredLink) (sound : IsS
         let same : hellos_to (things_of (s.world.links ++ (name, l) ∷ [])) (s.lanes ++ no_frames ∷ []) i ≡ hellos_to (links_of s ++ l ∷ []) (s.lanes ++ no_frames ∷ []) i = ap (λ (ls : List DeclaredLink). hellos_to ls (s.lanes ++ no_frames ∷ []) i) (things_of-push s.world.links name l) in
         record {
           most = within.most;
-          weak = λ a copy. weak_bound s.views s.lanes v id within.most within.bound a (copy_before id a copy);
+          weak = λ a copy. weak_bound s.views s.lanes v id within.most within.bound a (fewer_copies s.views s.lanes (s.lanes ++ no_frames ∷ []) id a before copy);
           room = omega (arith, within.room, few, same);
         };
   }
     where
       before : (k : ℕ) (dir : Dir) (f : Frame) → IsIn f (lane_of (s.lanes ++ no_frames ∷ []) k dir) → IsIn f (lane_of s.lanes k dir)
       before k dir f among = subst (IsIn f) (lane-push s.lanes k dir) among
-
-      copy_before : (id : LspId) (a : Version) → IsCopy s.views (s.lanes ++ no_frames ∷ []) id a → IsCopy s.views s.lanes id a
-      copy_before id a (is_held i v at is) = is_held i v at is
-      copy_before id a (is_said k dir f among claimed) = is_said k dir f (before k dir f among) claimed
 
   pub counted_link : n + 2 < last_number → IsCountedBy (n + 2) (switched_on (with_metrics_over (record s { world = with_link s.world name l; lanes = s.lanes ++ no_frames ∷ [] }) l) (length s.lanes))
   counted_link low =

@@ -21,9 +21,10 @@ use Rattle.spb_world.specs.declared.declaration.LinkEnd.{LinkEnd}
 use Rattle.network_model.specs.State.{State, links_of}
 use Rattle.spb_world.specs.Links.{far_end, lane_out}
 use Rattle.network_model.specs.Sound.{IsSoundState}
+use Rattle.network_model.specs.Copies.{text_held}
 use Rattle.network_model.specs.Counted.{IsCopy, is_held, is_said, IsOwnOf, IsCounted, allowance_of, most_commands}
 use Rattle.network_model.specs.SoundLaws.{opening_of, state_after, SomeNetworkIsBusy}
-use Rattle.network_model.specs.CountedLaws.{NumbersStayLow, BridgesStayFar, NothingIsFull, SomeCountedIsBusy}
+use Rattle.network_model.specs.CountedLaws.{NumbersStayLow, BridgesStayFar, NothingIsFull, OriginsGiveOneBody, SomeCountedIsBusy}
 use Rattle.network_model.proofs.FitsLemmas.{link_there}
 use Rattle.network_model.proofs.SoundMoves.{Comes}
 use Rattle.spb_world.proofs.SoundLaneIds.{turned, near-turned, lane_of_end}
@@ -87,6 +88,14 @@ has_place h id (Some e) few = ap not (room_below h.own.system h.db id (omega (ar
 pub nothing_is_full : NothingIsFull
 unfolding is_full
 nothing_is_full s i v rule up c sound counted at = has_place (holding_of v) c.id _ (few_held s i v sound counted at)
+
+-- ---- what is held live under one id has one body
+
+pub origins_give_one_body : OriginsGiveOneBody
+origins_give_one_body s sound counted i j v w id d e seq sum at_v at_w held_d held_e live_d live_e =
+    let owner = counted.by.held i v id d at_v held_d in
+    let view = view_of_own s id (core_of s sound) owner in
+    (counted.by.origins owner.place view.0 id view.1 view.2).bodies seq sum sum d.body e.body (text_held i v d at_v held_d live_d refl) (text_held j w e at_w held_e live_e refl)
 
 -- ---- some network is counted
 

@@ -82,6 +82,7 @@ module _ (s : State) (n i port : ℕ) (bytes : List ℕ) (core : IsCore s) (coun
         fresh = are.fresh;
         held = are.held;
         said = are.said;
+        origins = are.origins;
         bound = λ j w id at own.
             let from = got_mapped (moved (only i x j)) (slice_get s.views j) w (sym (turn.moves.bridges j) ∙ at) in
             let owned : IsOwnNumber from.0.id.system id = subst (λ (y : BridgeId). IsOwnNumber y.system id) (ap (λ (v : BridgeView). v.id) from.2 ∙ (moved_same (only i x j) from.0).id) own in

@@ -25,7 +25,7 @@ use Rattle.network_model.specs.State.{State, links_of, lane_at, with_frames}
 use Rattle.spb_world.specs.Links.{far_end}
 use Rattle.network_model.specs.Events.{stepped, with_second, ticked, heard_over, delivered_front, delivered, lost, doubled}
 use Rattle.network_model.specs.Sound.{AreShort}
-use Rattle.network_model.specs.Counted.{IsCopy, is_held, is_said, hellos_in, hellos_to, IsWithin, IsCountedBy}
+use Rattle.network_model.specs.Counted.{IsCopy, is_held, hellos_in, hellos_to, IsWithin, IsCountedBy}
 use Rattle.spb_world.proofs.BoxLemmas.{All-get}
 use Rattle.network_model.proofs.BridgeLaws.{steps_answer}
 use Rattle.network_model.proofs.FitsLemmas.{IsAlike, alike_itself, alike_with_frames}
@@ -35,6 +35,7 @@ use Rattle.network_model.proofs.SoundSteps.{only, only_here, only_is, IsInputAt,
 use Rattle.network_model.proofs.SoundEvents.{stepped_world, front_comes, fewer_rest}
 use Rattle.network_model.proofs.CountedSent.{AreNoHellos, relayed, quiet_lanes}
 use Rattle.network_model.proofs.CountedHellos.{one, hellos_front, hellos_rest, hellos_lost, hellos_doubled, hellos_changed, hellos_taken}
+use Rattle.network_model.proofs.Origins.{fewer_copies, fewer_origins}
 use Rattle.network_model.proofs.CountedMoves.{Turn, is_within, length-things, claims_are_copies, stems, bound_after}
 use Rattle.network_model.proofs.CountedSteps.{AreOwn, AreFar, own_moved, AreWeak, own_from, weak_bound, weak_from, counted_from, far_from_last}
 use Rattle.network_model.proofs.CountedGains.{weak_moved, gain_at, only_beside, step_raises, bound_heard, hello_at, tick_hellos}
@@ -72,7 +73,7 @@ step_weak x s n i is_input core are weak low quiet silent no_frame =
 
 -- a second is counted
 own_second : (s : State) (i : ℕ) → AreOwn s → AreOwn (with_second s i)
-own_second s i own = record { fresh = own.fresh; held = own.held; said = own.said }
+own_second s i own = record { fresh = own.fresh; held = own.held; said = own.said; origins = own.origins }
 
 weak_second : (s : State) (n : ℕ → ℕ) (i : ℕ) → AreWeak n s → AreWeak n (with_second s i)
 weak_second s n i weak j v id at own =
@@ -111,14 +112,11 @@ counted_fewer s n c lanes counted fewer hellos = record {
   fresh = counted.fresh;
   held = counted.held;
   said = λ k dir f id a among claimed. counted.said k dir f id a (fewer k dir f among) claimed;
+  origins = fewer_origins s lanes fewer counted.origins;
   bound = λ i v id at own.
       let within = counted.bound i v id at own in
-      record { most = within.most; bound = λ a copy. within.bound a (before id a copy); room = omega (arith, within.room, hellos i) };
+      record { most = within.most; bound = λ a copy. within.bound a (fewer_copies s.views s.lanes lanes id a fewer copy); room = omega (arith, within.room, hellos i) };
 }
-  where
-    before : (id : LspId) (a : Version) → IsCopy s.views lanes id a → IsCopy s.views s.lanes id a
-    before id a (is_held i v at is) = is_held i v at is
-    before id a (is_said k dir f among claimed) = is_said k dir f (fewer k dir f among) claimed
 
 pub Counted-lost : (s : State) (n k : ℕ) (dir : Dir) (place : ℕ) → IsCountedBy n s → IsCountedBy (n + 0) (lost s k dir place)
 Counted-lost s n k dir place counted =
@@ -222,6 +220,7 @@ module _ (s : State) (n k : ℕ) (dir : Dir) (bytes : Frame) (l : DeclaredLink) 
         fresh = are.fresh;
         held = are.held;
         said = are.said;
+        origins = are.origins;
         bound = λ i w id at own.
             let from = got_mapped (moved (only place x i)) (slice_get s.views i) w (sym (turn.moves.bridges i) ∙ at) in
             let owned : IsOwnNumber from.0.id.system id = subst (λ (y : BridgeId). IsOwnNumber y.system id) (ap (λ (v : BridgeView). v.id) from.2 ∙ (moved_same (only place x i) from.0).id) own in

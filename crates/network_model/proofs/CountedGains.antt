@@ -119,10 +119,10 @@ module _ (views : List BridgeView) (lanes : List LinkLanes) (v : BridgeView) (id
     where
       below : (x y : ℕ) → x ≤ y → x ≢ y → x < y
       below x y high apart = omega (arith, high, apart)
-  bound_heard i a at answered (aged ages b copy same) = absurd (true≢false (sym ages))
+  bound_heard i a at answered (aged ages b copy is) = absurd (true≢false (sym ages))
   bound_heard i a at answered (met b c copy other apart same is) =
       elim (bound b copy) [
-        | inl below ↦ inl (omega (arith, below, is))
+        | inl below ↦ inl (omega (arith, below, ap number_of is))
         | inr first ↦
             elim (bound c other) [
               | inl below ↦ absurd (omega (arith, below, same, first.0))

@@ -136,6 +136,7 @@ same_counted n s w core bridges hellos tracked = record {
     fresh = tracked.own.fresh;
     held = λ i v id e at held. subst (λ (bs : Bridges). IsOwnOf bs id) (sym bridges) (tracked.own.held i v id e at held);
     said = λ k dir f id a among claimed. subst (λ (bs : Bridges). IsOwnOf bs id) (sym bridges) (tracked.own.said k dir f id a among claimed);
+    origins = tracked.own.origins;
   };
   weak = λ i v id at own.
       let within = tracked.weak i v id at own in

@@ -13,6 +13,7 @@ use Rattle.spb_tlvs.specs.RoundTrip.{IsNamed}
 use Rattle.link_model.specs.declared.lanes.LinkLanes.{LinkLanes}
 use Rattle.link_model.specs.Lane.{Frame}
 use Rattle.lsdb.specs.declared.version.Version.{Version}
+use Rattle.lsdb.specs.declared.version.Version.TheVariants.{Dead}
 use Rattle.lsdb.specs.Version.{number_of}
 use Rattle.lsdb.specs.Database.{version_at, version_in}
 use Rattle.lsdb.specs.Certificate.{IsClaimed}
@@ -20,7 +21,7 @@ use Rattle.flooding.specs.Own.{IsOwnNumber}
 use Rattle.bridge_api.specs.View.{BridgeView, neighbour_at}
 use Rattle.bridge_api.specs.Parsing.{parsed}
 use Rattle.bridge_api.specs.Step.{Input, second, frame, carrier, metric, attach, detach, customer, step}
-use Rattle.bridge_api.specs.Laws.{IsSoundView, IsSent, IsHeldAt, claims_said, claims_of}
+use Rattle.bridge_api.specs.Laws.{IsSoundView, IsSent, IsHeldAt, IsFrameOf, claims_said, claims_of}
 use Rattle.bridge_api.specs.Time as time
 use Rattle.bridge_api.specs.Time.{AgedFrom}
 use Rattle.bridge_laws.specs.Counting as counting
@@ -109,26 +110,31 @@ can_name t i p k dir v core out at =
     far_within Ab l there = (link_there t k l core.world there).b.bridge
     far_within Ba l there = (link_there t k l core.world there).a.bridge
 
--- a frame that goes out claims what is held afterwards
-pub sent_held : (s t : State) (o : ℕ → Option Input) (k : ℕ) (dir : Dir) (f : Frame) (id : LspId) (a : Version) → Turn s t o → (out : GoesOut (links_of s) o s.views k dir f) → IsClaimed (claims_said (parsed f)) id a → IsHeldAt (moved (o out.place) out.view) id a
-sent_held s t o k dir f id a turn out claimed = by (o out.place) refl out.sent
+-- a frame that goes out is one of its sender afterwards
+pub frame_sent : (s t : State) (o : ℕ → Option Input) (k : ℕ) (dir : Dir) (f : Frame) → Turn s t o → (out : GoesOut (links_of s) o s.views k dir f) → IsFrameOf (moved (o out.place) out.view) out.port f
+frame_sent s t o k dir f turn out = by (o out.place) refl out.sent
   where
-    by : (x : Option Input) → o out.place ≡ x → IsSent (sent_by x out.view) out.port f → IsHeldAt (moved x out.view) id a
+    by : (x : Option Input) → o out.place ≡ x → IsSent (sent_by x out.view) out.port f → IsFrameOf (moved x out.view) out.port f
     by None is some = absurd some
     by (Some x) is some =
         let here : slice_get t.views out.place ≡ Some (step x out.view) = turn.moves.bridges out.place ∙ (λ j. option_map (moved (is j)) (out.from j)) in
         let way : lane_out (links_of t) out.place out.port ≡ Some (record { link = k; dir = dir }) = ap (λ (w : World). lane_out (things_of w.links) out.place out.port) turn.world ∙ out.out in
-        (sent_is_sound x out.view out.port f (subst (AreInputs out.view) is (turn.moves.inputs out.place out.view out.from)) (All-get IsSoundView s.views out.place out.view turn.before.views out.from)
-        (can_name t out.place out.port k dir (step x out.view) turn.after way here) some).claims id a claimed
+        sent_is_sound x out.view out.port f (subst (AreInputs out.view) is (turn.moves.inputs out.place out.view out.from)) (All-get IsSoundView s.views out.place out.view turn.before.views out.from)
+        (can_name t out.place out.port k dir (step x out.view) turn.after way here) some
+
+-- so it claims what is held afterwards
+pub sent_held : (s t : State) (o : ℕ → Option Input) (k : ℕ) (dir : Dir) (f : Frame) (id : LspId) (a : Version) → Turn s t o → (out : GoesOut (links_of s) o s.views k dir f) → IsClaimed (claims_said (parsed f)) id a → IsHeldAt (moved (o out.place) out.view) id a
+sent_held s t o k dir f id a turn out claimed = (frame_sent s t o k dir f turn out).claims id a claimed
 
 -- ---- where a copy comes from
 
--- a copy after a move was there before, is the owner's, is one that expired, or has the number of two that differ
+-- a copy after a move was there before, is the owner's, is dead where one expired, or is dead at the number of two that
+-- differ
 pub data Stems (aging : Bool) (views : List BridgeView) (lanes : List LinkLanes) (id : LspId) (own a : Version) : Type 0 where
   was : IsCopy views lanes id a → Stems aging views lanes id own a
   owns : a ≡ own → Stems aging views lanes id own a
-  aged : aging ≡ true → (b : Version) → IsCopy views lanes id b → number_of a ≡ number_of b → Stems aging views lanes id own a
-  met : (b c : Version) → IsCopy views lanes id b → IsCopy views lanes id c → b ≢ c → number_of b ≡ number_of c → number_of a ≡ number_of b → Stems aging views lanes id own a
+  aged : aging ≡ true → (b : Version) → IsCopy views lanes id b → a ≡ Dead (number_of b) → Stems aging views lanes id own a
+  met : (b c : Version) → IsCopy views lanes id b → IsCopy views lanes id c → b ≢ c → number_of b ≡ number_of c → a ≡ Dead (number_of b) → Stems aging views lanes id own a
 
 -- what is claimed in what comes to a bridge is a copy
 pub claims_are_copies : (links : List DeclaredLink) (views : List BridgeView) (lanes : List LinkLanes) (j : ℕ) (x : Input) (id : LspId) (a : Version) → ((p : ℕ) (f : Frame) → x ≡ frame p f → Comes links lanes j p f) → IsClaimed (claims_of x) id a → IsCopy views lanes id a
@@ -143,7 +149,7 @@ claims_are_copies links views lanes j (customer p bytes) id a comes claimed = ab
 module _ (aging : Bool) (views : List BridgeView) (lanes : List LinkLanes) (id : LspId) (own : Version) where
   aged_stems : (j : ℕ) (u : BridgeView) (a : Version) → slice_get views j ≡ Some u → aging ≡ true → AgedFrom (get u.database id) (get (step second u).database id) → version_at (step second u).database id ≡ a → Stems aging views lanes id own a
   aged_stems j u a at ages (time.stays version body lower upper) is = was (is_held j u at (sym version ∙ is))
-  aged_stems j u a at ages (time.dies live last version body) is = aged ages (version_at u.database id) (is_held j u at refl) (ap number_of (sym is ∙ version))
+  aged_stems j u a at ages (time.dies live last version body) is = aged ages (version_at u.database id) (is_held j u at refl) (sym is ∙ version)
 
   known_copy : (j : ℕ) (u : BridgeView) (x : Input) (a : Version) → slice_get views j ≡ Some u → ((b : Version) → IsClaimed (claims_of x) id b → IsCopy views lanes id b) → IsKnown (version_at u.database id) (claims_of x) id a → IsCopy views lanes id a
   known_copy j u x a at claims (counting.is_held is) = is_held j u at (sym is)
@@ -152,7 +158,7 @@ module _ (aging : Bool) (views : List BridgeView) (lanes : List LinkLanes) (id :
   learned_stems : (j : ℕ) (u : BridgeView) (x : Input) (new a : Version) → slice_get views j ≡ Some u → ((b : Version) → IsClaimed (claims_of x) id b → IsCopy views lanes id b) → Learned (version_at u.database id) (claims_of x) id new → new ≡ a → Stems aging views lanes id own a
   learned_stems j u x new a at claims (counting.takes known) is = was (subst (IsCopy views lanes id) is (known_copy j u x new at claims known))
   learned_stems j u x new a at claims (counting.ends b c first other apart same dead) is =
-      met b c (known_copy j u x b at claims first) (known_copy j u x c at claims other) apart same (ap number_of (sym is ∙ dead))
+      met b c (known_copy j u x b at claims first) (known_copy j u x c at claims other) apart same (sym is ∙ dead)
 
   -- at a bridge of another system
   other_stems : (links : List DeclaredLink) (j : ℕ) (u : BridgeView) (o : Option Input) (a : Version) → slice_get views j ≡ Some u → id.system ≢ u.id.system → (o ≡ Some second → aging ≡ true) → ((p : ℕ) (f : Frame) → o ≡ Some (frame p f) → Comes links lanes j p f) → version_at (moved o u).database id ≡ a → Stems aging views lanes id own a
@@ -203,8 +209,8 @@ module _ (aging : Bool) (s t : State) (o : ℕ → Option Input) (turn : Turn s 
 pub weak_after : (aging : Bool) (views : List BridgeView) (lanes : List LinkLanes) (id : LspId) (own a : Version) (m n : ℕ) → m ≤ n → IsWeak views lanes id m → number_of own ≤ n → Stems aging views lanes id own a → number_of a ≤ n
 weak_after aging views lanes id own a m n more weak low (was copy) = omega (arith, more, weak a copy)
 weak_after aging views lanes id own a m n more weak low (owns is) = subst (λ (x : Version). number_of x ≤ n) (sym is) low
-weak_after aging views lanes id own a m n more weak low (aged ages b copy same) = omega (arith, more, weak b copy, same)
-weak_after aging views lanes id own a m n more weak low (met b c copy other apart same is) = omega (arith, more, weak b copy, is)
+weak_after aging views lanes id own a m n more weak low (aged ages b copy is) = omega (arith, more, weak b copy, ap number_of is)
+weak_after aging views lanes id own a m n more weak low (met b c copy other apart same is) = omega (arith, more, weak b copy, ap number_of is)
 
 -- and where it goes one number past all, nobody else has that one
 pub bound_after : (aging : Bool) (views : List BridgeView) (lanes : List LinkLanes) (id : LspId) (own a : Version) (m : ℕ) → IsWeak views lanes id m → number_of own ≤ m + 1 → Stems aging views lanes id own a → (number_of a < m + 1) ⊎ ((number_of a ≡ m + 1) × (a ≡ own))
@@ -218,5 +224,5 @@ bound_after aging views lanes id own a m weak low (owns is) =
   where
     below : (x y : ℕ) → x ≤ y → x ≢ y → x < y
     below x y high apart = omega (arith, high, apart)
-bound_after aging views lanes id own a m weak low (aged ages b copy same) = inl (omega (arith, weak b copy, same))
-bound_after aging views lanes id own a m weak low (met b c copy other apart same is) = inl (omega (arith, weak b copy, is))
+bound_after aging views lanes id own a m weak low (aged ages b copy is) = inl (omega (arith, weak b copy, ap number_of is))
+bound_after aging views lanes id own a m weak low (met b c copy other apart same is) = inl (omega (arith, weak b copy, ap number_of is))

@@ -73,6 +73,7 @@ again n s outs r d a counted = record {
   fresh = counted.fresh;
   held = counted.held;
   said = counted.said;
+  origins = counted.origins;
   bound = λ i v id at own. let within = counted.bound i v id at own in record { most = within.most; bound = within.bound; room = within.room };
 }
 
@@ -82,6 +83,7 @@ vid_counted n s vid ect counted = record {
   fresh = counted.fresh;
   held = counted.held;
   said = counted.said;
+  origins = counted.origins;
   bound = λ i v id at own. let within = counted.bound i v id at own in record { most = within.most; bound = within.bound; room = within.room };
 }
 
@@ -91,6 +93,7 @@ isid_counted n s isid vid counted = record {
   fresh = counted.fresh;
   held = counted.held;
   said = counted.said;
+  origins = counted.origins;
   bound = λ i v id at own. let within = counted.bound i v id at own in record { most = within.most; bound = within.bound; room = within.room };
 }
 
@@ -302,6 +305,7 @@ opening_counted rule rack = record {
     fresh = tt;
     held = λ i v id e at held. absurd cc;
     said = λ k dir f id a among claimed. absurd among;
+    origins = λ i v id at own. absurd cc;
     bound = λ i v id at own. absurd cc;
   };
 }

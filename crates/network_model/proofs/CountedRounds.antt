@@ -21,6 +21,7 @@ counted_more n m s more counted = record {
   fresh = counted.fresh;
   held = counted.held;
   said = counted.said;
+  origins = counted.origins;
   bound = λ i v id at own.
       let within = counted.bound i v id at own in
       record { most = within.most; bound = within.bound; room = omega (arith, within.room, more) };

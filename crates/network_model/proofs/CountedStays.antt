@@ -91,6 +91,7 @@ counted_rule s rule counted = record {
     fresh = counted.by.fresh;
     held = counted.by.held;
     said = counted.by.said;
+    origins = counted.by.origins;
     bound = λ i v id at own. let within = counted.by.bound i v id at own in record { most = within.most; bound = within.bound; room = within.room };
   };
 }

@@ -22,21 +22,25 @@ use Rattle.bridge_api.specs.Laws.{IsSoundView, claims_said, claims_of}
 use Rattle.bridge_laws.specs.Counting.{IsFar}
 use Rattle.spb_world.specs.World.{World}
 use Rattle.network_model.specs.State.{State, links_of}
+use Rattle.network_model.specs.Copies.{HaveOrigins}
 use Rattle.network_model.specs.Counted.{IsCopy, is_held, IsWeak, IsBound, hellos_to, IsOwnOf, IsCountedBy}
 use Rattle.spb_world.proofs.BoxLemmas.{All-get}
 use Rattle.network_model.proofs.BridgeLaws.{steps_hold_ids, steps_dont_spend}
 use Rattle.network_model.proofs.SoundLane.{moved}
 use Rattle.spb_world.proofs.SoundLaneIds.{turned}
 use Rattle.network_model.proofs.SoundMoves.{IsCore, Comes, All-each, got_mapped}
+use Rattle.network_model.proofs.OriginMoves.{origins_moved}
 use Rattle.network_model.proofs.CountedMoves.{Turn, declared_at, shown_at, sent_held, claims_are_copies}
 
 -- ---- whose ids there are
 
--- no bridge has spent its numbers, and none but declared bridges' ids are held or claimed
+-- no bridge has spent its numbers, none but declared bridges' ids are held or claimed, and what is held or on its way of
+-- each stems from the one that originates it
 pub record AreOwn (s : State) : Type 0 where
   pub fresh : AllByRecursion (λ v. v.spent ≡ false) s.views
   pub held : (i : ℕ) (v : BridgeView) (id : LspId) (e : Entry) → slice_get s.views i ≡ Some v → get v.database id ≡ Some e → IsOwnOf s.world.bridges id
   pub said : (k : ℕ) (dir : Dir) (bytes : Frame) (id : LspId) (a : Version) → IsIn bytes (lane_of s.lanes k dir) → IsClaimed (claims_said (parsed bytes)) id a → IsOwnOf s.world.bridges id
+  pub origins : HaveOrigins s
 
 -- what comes to each bridge leaves it far from the last number
 abbrev pub AreFar : State → (ℕ → Option Input) → Type 0
@@ -101,6 +105,7 @@ module _ (s t : State) (o : ℕ → Option Input) (turn : Turn s t o) (are : Are
         let from = got_mapped (moved (o j)) (slice_get s.views j) w (sym (turn.moves.bridges j) ∙ at) in
         subst (λ (x : World). IsOwnOf x.bridges id) (sym turn.world) (held_moved j from.0 (o j) id e refl from.1 (ap (λ (v : BridgeView). get v.database id) (sym from.2) ∙ held));
     said = λ k dir f id a among claimed. subst (λ (x : World). IsOwnOf x.bridges id) (sym turn.world) (said_moved k dir f id a among claimed);
+    origins = origins_moved s t o turn are.origins;
   }
 
 -- ---- allowances
@@ -116,7 +121,7 @@ abbrev pub AreWeak : (ℕ → ℕ) → State → Type 0
 AreWeak n s = (i : ℕ) (v : BridgeView) (id : LspId) → slice_get s.views i ≡ Some v → IsOwnNumber v.id.system id → IsWeaklyWithin s i id (n i)
 
 pub own_from : (n : ℕ) (s : State) → IsCountedBy n s → AreOwn s
-own_from n s counted = record { fresh = counted.fresh; held = counted.held; said = counted.said }
+own_from n s counted = record { fresh = counted.fresh; held = counted.held; said = counted.said; origins = counted.origins }
 
 pub weak_bound : (views : List BridgeView) (lanes : List LinkLanes) (v : BridgeView) (id : LspId) (m : ℕ) → IsBound views lanes v id m → IsWeak views lanes id m
 weak_bound views lanes v id m bound a copy =
@@ -135,6 +140,7 @@ counted_from n c s are weak low = record {
   fresh = are.fresh;
   held = are.held;
   said = are.said;
+  origins = are.origins;
   bound = λ i v id at own.
       let within = weak i v id at own in
       record { most = within.most + 1; bound = λ a copy. inl (let high = within.weak a copy in omega (arith, high)); room = omega (arith, within.room, low i v at) };

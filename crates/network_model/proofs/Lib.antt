@@ -35,9 +35,11 @@ pub mod DeclaredLemmas
 pub mod Chains
 pub mod Tested
 pub mod Firsts
+pub mod Origins
 pub mod CountedHellos
 pub mod CountedSent
 pub mod CountedMoves
+pub mod OriginMoves
 pub mod CountedSteps
 pub mod CountedGains
 pub mod CountedEvents
@@ -52,9 +54,11 @@ pub mod FewIds
 pub mod CountedEnds
 pub mod CountedStays
 pub mod RestartCut
+pub mod RestartBegins
 pub mod RestartConfig
 pub mod RestartSound
 pub mod RestartCounted
+pub mod CarrierComes
 pub mod RestartNew
 pub mod QuietLists
 pub mod QuietLaws

@@ -19,7 +19,8 @@ use Rattle.spb_world.specs.World.{IsLink}
 use Rattle.network_model.specs.State.{State, links_of}
 use Rattle.spb_world.specs.Links.{near_end, far_end}
 use Rattle.network_model.specs.Sound.{IsSoundState, IsFloodedOrHeld, end_at}
-use Rattle.network_model.specs.Quiet.{IsUpTowards, IsCalm, HaveOneBody}
+use Rattle.network_model.specs.Copies.{HaveOneBody}
+use Rattle.network_model.specs.Quiet.{IsUpTowards, IsCalm}
 use Rattle.network_model.specs.Truth.{AreLinked, IsWalk, QuietIsShared}
 use Rattle.spb_world.proofs.BoxLemmas.{All-get}
 

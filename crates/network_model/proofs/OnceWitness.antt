@@ -1,10 +1,9 @@
 -- A bridge with three ports in a service is quiet from the start; a frame to all that enters at one of them leaves at
 -- the others.
-use Rattle.std.proofs.Common.{◌≡◌, ◌<◌, ℕ, zero, suc, Bool, true, false, true≢false, ◌||◌, inl, inr, List, [], ◌∷◌, ◌++◌, length, refl, sym, ap, ◌∙◌, subst, Option, Some, None, slice_get, arith}
+use Rattle.std.proofs.Common.{◌≡◌, ◌<◌, ℕ, zero, suc, Bool, true, false, true≢false, ◌||◌, inl, inr, List, [], ◌∷◌, ◌++◌, refl, sym, ap, ◌∙◌, subst, Option, Some, None, slice_get, arith}
 use Rattle.std.specs.Option.{option_map_or}
 use Rattle.std.specs.List.{AllByRecursion, list_any}
 use Rattle.std.specs.FinMap.{get}
-use Rattle.std.proofs.lemmas.Option.{slice_get_within}
 use Rattle.scenario.specs.declared.command.Command.{Command}
 use Rattle.scenario.specs.declared.command.Command.TheVariants as command
 use Rattle.spb_types.specs.Ports.{has}
@@ -34,14 +33,13 @@ use Rattle.spb_world.specs.Naming.{named_attach_refusal, named_entry_refusal}
 use Rattle.network_model.specs.Play.{at_place, at_bridge, declared, with_vid_more, with_service_more, next_state, played_all}
 use Rattle.network_model.specs.Sound.{IsSoundState, ends_live_link}
 use Rattle.network_model.specs.SoundLaws.{AreAccepted, Scene}
-use Rattle.network_model.specs.Quiet.{IsCalm, IsQuiet, AreEmpty, HaveMet, HaveNoFlags, HaveOneBody}
+use Rattle.network_model.specs.Quiet.{IsQuiet, AreEmpty, HaveMet, HaveNoFlags}
 use Rattle.network_model.specs.Once.{IsPassage, IsReach, SomeFramePasses}
 use Rattle.spb_world.proofs.BoxLemmas.{All-get}
 use Rattle.network_model.proofs.BridgeLaws.{up_ports_are_up}
 use Rattle.network_model.proofs.QuietLaws.{port_of, quiet_says}
 use Rattle.network_model.proofs.QuietStates.{up_is_linked}
 use Rattle.network_model.proofs.SentLanes.{stepped_rest}
-use Rattle.network_model.proofs.SoundLane.{some-is}
 use Rattle.network_model.proofs.SoundPlay.{commands_keep_sound, networks_are_sound}
 use Rattle.network_model.proofs.SoundWitness.{box}
 use Rattle.network_model.proofs.ApartWitness.{at_port, bridge, bytes, declarations, enters, name, start}
@@ -103,18 +101,8 @@ module _ (s : State) (sound : IsSoundState s) (unlinked : links_of s ≡ []) whe
       let view : IsSoundView v = All-get IsSoundView s.views i v sound.views at in
       λ k. without_due v.database (λ id p. none_due v i at id p (get v.database id) refl) k || no_csnp v.ports view.ports (λ n port at_n. port_not_up v i n port at at_n) k
 
-  one_body : length s.views ≡ 1 → HaveOneBody s
-  one_body one i j v w id d e seq sum at_v at_w at_d at_e is_d is_e =
-      let first : i ≡ 0 = omega (arith, slice_get_within s.views i v at_v, one) in
-      let second : j ≡ 0 = omega (arith, slice_get_within s.views j w at_w, one) in
-      let same : v ≡ w = some-is v w (sym at_v ∙ (ap (slice_get s.views) (first ∙ sym second) ∙ at_w)) in
-      let entry : d ≡ e = some-is d e (sym at_d ∙ (ap (λ (x : BridgeView). get x.database id) same ∙ at_e)) in
-      ap (λ (x : Entry). x.body) entry
-
-  pub alone_is_quiet : length s.views ≡ 1 → IsQuiet s
-  alone_is_quiet one =
-      let calm : IsCalm s = record { met = have_met; empty = nothing_comes; flags = no_flags } in
-      (quiet_says s).quiet.1 (calm, one_body one)
+  pub alone_is_quiet : IsQuiet s
+  alone_is_quiet = (quiet_says s).quiet.1 (record { met = have_met; empty = nothing_comes; flags = no_flags })
 
 -- ---- three ports in a service
 
@@ -140,10 +128,6 @@ ready = played_all start three
 ready_world : ready.world ≡ world
 unfolding next_state with_vid with_bridge next_box stepped with_vid_more declared at_bridge with_service with_service_more with_attachment_at port_attached
 ready_world = refl
-
-one_view : length ready.views ≡ 1
-unfolding next_state with_vid with_bridge next_box stepped with_vid_more declared at_bridge with_service with_service_more with_attachment_at port_attached
-one_view = refl
 
 abbrev scene : Scene
 scene = record { rule = rule.Plain; rack = box ∷ []; commands = three; accepted = all_declared }
@@ -189,7 +173,7 @@ pub some_frame_passes : SomeFramePasses
 some_frame_passes = record {
   scene = scene;
   few = omega arith;
-  quiet = alone_is_quiet ready ready_sound (ap (λ (w : World). things_of w.links) ready_world) one_view;
+  quiet = alone_is_quiet ready ready_sound (ap (λ (w : World). things_of w.links) ready_world);
   name = name;
   place = 0;
   port = 1;

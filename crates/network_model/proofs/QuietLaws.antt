@@ -1,19 +1,12 @@
 -- Each condition of quiet holds exactly where what it reads like does.
 use Rattle.std.proofs.Common.{◌≡◌, ℕ, zero, suc, ◌+◌, Bool, true, false, not, ◌&&◌, ◌||◌, ◌==◌, List, [], ◌∷◌, ◌++◌, length, Option, Some, None, slice_get, refl, sym, ap, subst, ◌∙◌, arith}
 use Rattle.std.specs.List.{list_all}
-use Rattle.std.specs.Str.{bytes_eq}
-use Rattle.std.specs.FinMap.{get, entries}
 use Rattle.std.proofs.lemmas.Bool.{and_parts, eqb-true, eq-eqb}
 use Rattle.std.proofs.lemmas.Option.{same_Some}
 use Rattle.std.proofs.lemmas.Slice.Eq.{bytes_eq-Decides}
-use Rattle.spb_types.specs.declared.address.LspId.{LspId}
 use Rattle.spb_types.specs.Address.{same_system}
 use Rattle.spb_types.specs.declared.link.Dir.{Dir}
 use Rattle.spb_types.specs.declared.link.Dir.TheVariants.{Ab, Ba}
-use Rattle.lsdb.specs.declared.version.Version.{Version}
-use Rattle.lsdb.specs.declared.version.Version.TheVariants.{Absent, Live, Dead}
-use Rattle.lsdb.specs.Entry.{Entry}
-use Rattle.lsdb.proofs.LookupLemmas.{get_place}
 use Rattle.link_model.specs.declared.lanes.LinkLanes.{LinkLanes}
 use Rattle.link_model.specs.Lanes.{lane_of}
 use Rattle.adjacency.specs.Hearing.{End, same_end}
@@ -24,10 +17,10 @@ use Rattle.spb_world.specs.declared.declaration.LinkEnd.{LinkEnd}
 use Rattle.network_model.specs.State.{State, links_of}
 use Rattle.spb_world.specs.Links.{near_end, far_end}
 use Rattle.network_model.specs.Sound.{end_at, ends_live_link}
-use Rattle.network_model.specs.Quiet.{is_end, is_up_with, is_up_towards, is_met, are_ports_linked, are_all_linked, holds_q1, is_idle, holds_q2, holds_q3, is_same_live, agrees_with, agree_on_bodies, holds_q4, unless_holds, failing, IsQuiet, IsUpTowards, HaveMet, AreEmpty, HaveNoFlags, HaveOneBody, IsCalm, QuietSays, have_one_body}
+use Rattle.network_model.specs.Quiet.{is_end, is_up_with, is_up_towards, is_met, are_ports_linked, are_all_linked, holds_q1, is_idle, holds_q2, holds_q3, unless_holds, failing, IsQuiet, IsUpTowards, HaveMet, AreEmpty, HaveNoFlags, IsCalm, QuietSays}
 use Rattle.spb_world.proofs.ListLemmas.{not-true}
 use Rattle.network_model.proofs.PortLemmas.{port-next, suc-is}
-use Rattle.network_model.proofs.QuietLists.{both_true, by_first, from_first, each_of, all_of, nil_of, of_nil, place_of_held}
+use Rattle.network_model.proofs.QuietLists.{both_true, by_first, from_first, each_of, all_of, nil_of, of_nil}
 
 -- ---- q1: links
 
@@ -191,82 +184,34 @@ from_flags : (s : State) → HaveNoFlags s → holds_q3 s ≡ true
 unfolding holds_q3
 from_flags s f = all_of (λ w. not (has_flags w)) s.views (λ i v at. ap not (f i v at))
 
--- ---- q4
-
-same_live_is : (a b : Version) → is_same_live a b ≡ true → (seq : ℕ) × (sum : ℕ) × (a ≡ Live seq sum) × (b ≡ Live seq sum)
-same_live_is Absent b h = cc
-same_live_is (Dead n) b h = cc
-same_live_is (Live n s) Absent h = cc
-same_live_is (Live n s) (Dead m) h = cc
-same_live_is (Live n s) (Live m t) h =
-    let parts = and_parts (n == m) (s == t) h in
-    (n, s, refl, λ i. Live (sym (eqb-true n m parts.0) i) (sym (eqb-true s t parts.1) i))
-
-of_same_live : (a b : Version) (seq sum : ℕ) → a ≡ Live seq sum → b ≡ Live seq sum → is_same_live a b ≡ true
-of_same_live a b seq sum x y =
-    (λ i. is_same_live (x i) (y i)) ∙ both_true (seq == seq) (sum == sum) (eq-eqb seq seq refl) (eq-eqb sum sum refl)
-
-agree_at : (o : Option Entry) (d e : Entry) → o ≡ Some e → agrees_with o d ≡ true → (seq sum : ℕ) → d.version ≡ Live seq sum → e.version ≡ Live seq sum → d.body ≡ e.body
-agree_at o d e is agree seq sum x y =
-    let same : agrees_with (Some e) d ≡ true = subst (λ (n : Option Entry). agrees_with n d ≡ true) is agree in
-    (bytes_eq-Decides d.body e.body).0 (by_first (is_same_live d.version e.version) (bytes_eq d.body e.body) (of_same_live d.version e.version seq sum x y) same)
-
-of_agree : (o : Option Entry) (d : Entry) → ((e : Entry) (seq sum : ℕ) → o ≡ Some e → d.version ≡ Live seq sum → e.version ≡ Live seq sum → d.body ≡ e.body) → agrees_with o d ≡ true
-of_agree None d f = refl
-of_agree (Some e) d f =
-    from_first (is_same_live d.version e.version) (bytes_eq d.body e.body)
-    (λ same. let live = same_live_is d.version e.version same in (bytes_eq-Decides d.body e.body).1 (f e live.0 live.1 refl live.2 live.3))
-
-pub bodies_agree : (views : List BridgeView) → have_one_body views ≡ true → (i j : ℕ) (v w : BridgeView) (id : LspId) (d e : Entry) (seq sum : ℕ) → slice_get views i ≡ Some v → slice_get views j ≡ Some w → get v.database id ≡ Some d → get w.database id ≡ Some e → d.version ≡ Live seq sum → e.version ≡ Live seq sum → d.body ≡ e.body
-bodies_agree views h i j v w id d e seq sum at_v at_w held_v held_w x y =
-    let agree = each_of (agree_on_bodies v) views (each_of (λ u. list_all (agree_on_bodies u) views) views h i v at_v) j w at_w in
-    let place = place_of_held v.database id d held_v in
-    agree_at (get w.database id) d e held_w (each_of (λ (c : LspId × Entry). agrees_with (get w.database c.0) c.1) (entries v.database) agree place.0 (id, d) place.1) seq sum x y
-
-pub from_bodies : (views : List BridgeView) → ((i j : ℕ) (v w : BridgeView) (id : LspId) (d e : Entry) (seq sum : ℕ) → slice_get views i ≡ Some v → slice_get views j ≡ Some w → get v.database id ≡ Some d → get w.database id ≡ Some e → d.version ≡ Live seq sum → e.version ≡ Live seq sum → d.body ≡ e.body) → have_one_body views ≡ true
-from_bodies views one =
-    all_of (λ u. list_all (agree_on_bodies u) views) views (λ i v at_v. all_of (agree_on_bodies v) views (λ j w at_w.
-    all_of (λ (c : LspId × Entry). agrees_with (get w.database c.0) c.1) (entries v.database) (λ n c at.
-    of_agree (get w.database c.0) c.1 (λ e seq sum held x y. one i j v w c.0 c.1 e seq sum at_v at_w (get_place v.database n c at) held x y))))
-
-pub one_body : (s : State) → holds_q4 s ≡ true → HaveOneBody s
-unfolding holds_q4
-one_body s h = bodies_agree s.views h
-
-pub from_one_body : (s : State) → HaveOneBody s → holds_q4 s ≡ true
-unfolding holds_q4
-from_one_body s one = from_bodies s.views one
-
 -- ---- quiet
 
-none_fails : (a b c d : Bool) → unless_holds 1 a ++ unless_holds 2 b ++ unless_holds 3 c ++ unless_holds 4 d ≡ [] → (a ≡ true) × (b ≡ true) × (c ≡ true) × (d ≡ true)
-none_fails true true true true h = (refl, refl, refl, refl)
-none_fails false b c d h = cc
-none_fails true false c d h = cc
-none_fails true true false d h = cc
-none_fails true true true false h = cc
+none_fails : (a b c : Bool) → unless_holds 1 a ++ unless_holds 2 b ++ unless_holds 3 c ≡ [] → (a ≡ true) × (b ≡ true) × (c ≡ true)
+none_fails true true true h = (refl, refl, refl)
+none_fails false b c h = cc
+none_fails true false c h = cc
+none_fails true true false h = cc
 
-all_hold : (s : State) → IsQuiet s → (holds_q1 s ≡ true) × (holds_q2 s ≡ true) × (holds_q3 s ≡ true) × (holds_q4 s ≡ true)
+all_hold : (s : State) → IsQuiet s → (holds_q1 s ≡ true) × (holds_q2 s ≡ true) × (holds_q3 s ≡ true)
 unfolding failing
-all_hold s h = none_fails (holds_q1 s) (holds_q2 s) (holds_q3 s) (holds_q4 s) h
+all_hold s h = none_fails (holds_q1 s) (holds_q2 s) (holds_q3 s) h
 
-of_all_hold : (s : State) → holds_q1 s ≡ true → holds_q2 s ≡ true → holds_q3 s ≡ true → holds_q4 s ≡ true → IsQuiet s
+of_all_hold : (s : State) → holds_q1 s ≡ true → holds_q2 s ≡ true → holds_q3 s ≡ true → IsQuiet s
 unfolding failing
-of_all_hold s a b c d = λ i. unless_holds 1 (a i) ++ unless_holds 2 (b i) ++ unless_holds 3 (c i) ++ unless_holds 4 (d i)
+of_all_hold s a b c = λ i. unless_holds 1 (a i) ++ unless_holds 2 (b i) ++ unless_holds 3 (c i)
 
-calm : (s : State) → IsQuiet s → IsCalm s × HaveOneBody s
+calm : (s : State) → IsQuiet s → IsCalm s
 calm s quiet =
     let all = all_hold s quiet in
-    (record { met = met s all.0; empty = empty s all.1; flags = flags s all.2 }, one_body s all.3)
+    record { met = met s all.0; empty = empty s all.1; flags = flags s all.2 }
 
-from_calm : (s : State) → IsCalm s × HaveOneBody s → IsQuiet s
-from_calm s h = of_all_hold s (from_have_met s h.0.met) (from_empty s h.0.empty) (from_flags s h.0.flags) (from_one_body s h.1)
+from_calm : (s : State) → IsCalm s → IsQuiet s
+from_calm s h = of_all_hold s (from_have_met s h.met) (from_empty s h.empty) (from_flags s h.flags)
 
 pub quiet_says : QuietSays
 quiet_says s = record {
   q1 = (met s, from_have_met s);
   q2 = (empty s, from_empty s);
   q3 = (flags s, from_flags s);
-  q4 = (one_body s, from_one_body s);
   quiet = (calm s, from_calm s);
 }

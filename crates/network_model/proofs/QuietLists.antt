@@ -1,15 +1,8 @@
 -- What a test of each item of a list says of the item at each place.
-use Rattle.std.proofs.Common.{◌≡◌, ℕ, zero, suc, Bool, true, false, not, ◌&&◌, ◌||◌, List, [], ◌∷◌, length, ◌==◌, Some, slice_get, refl, sym, ap, subst, ◌∙◌, arith}
+use Rattle.std.proofs.Common.{◌≡◌, ℕ, zero, suc, Bool, true, false, not, ◌&&◌, ◌||◌, List, [], ◌∷◌, length, ◌==◌, Some, slice_get, refl, ap, subst, arith}
 use Rattle.std.specs.List.{list_all}
-use Rattle.std.specs.Ordering.{is_eq}
-use Rattle.std.specs.Prelude.{cond}
-use Rattle.std.specs.FinMap.{find, get, entries, get-entries}
 use Rattle.std.proofs.lemmas.Bool.{and_parts, eqb-true}
 use Rattle.std.proofs.lemmas.Option.{same_Some}
-use Rattle.spb_types.specs.declared.address.LspId.{LspId}
-use Rattle.lsdb.specs.Entry.{Entry}
-use Rattle.lsdb.specs.Database.{Lsps, id_cmp}
-use Rattle.lsdb.proofs.LookupLemmas.{tied_is}
 
 pub both_true : (b c : Bool) → b ≡ true → c ≡ true → (b && c) ≡ true
 both_true b c x y = λ i. x i && y i
@@ -38,15 +31,3 @@ nil_of (x ∷ xs) h = let e = eqb-true (length (x ∷ xs)) 0 h in absurd (omega 
 
 pub of_nil : {X : Type 0} (xs : List X) → xs ≡ [] → (length xs == 0) ≡ true
 of_nil xs e = ap (λ (l : List _). length l == 0) e
-
--- what is found under an id stands at a place
-found_at : (d : LspId × Entry) (es : List (LspId × Entry)) (id : LspId) (e : Entry) → (find id_cmp id es ≡ Some e → (i : ℕ) × (slice_get es i ≡ Some (id, e))) → (b : Bool) → is_eq (id_cmp id d.0) ≡ b → cond b (Some d.1) (find id_cmp id es) ≡ Some e → (i : ℕ) × (slice_get (d ∷ es) i ≡ Some (id, e))
-found_at d es id e more true t is = (zero, λ i. Some (sym (tied_is id d.0 t) i, same_Some d.1 e is i))
-found_at d es id e more false t is = let rest = more is in (suc rest.0, rest.1)
-
-found : (es : List (LspId × Entry)) (id : LspId) (e : Entry) → find id_cmp id es ≡ Some e → (i : ℕ) × (slice_get es i ≡ Some (id, e))
-found [] id e is = cc
-found (d ∷ es) id e is = found_at d es id e (found es id e) (is_eq (id_cmp id d.0)) refl is
-
-pub place_of_held : (db : Lsps) (id : LspId) (e : Entry) → get db id ≡ Some e → (i : ℕ) × (slice_get (entries db) i ≡ Some (id, e))
-place_of_held db id e held = found (entries db) id e (sym (get-entries db id) ∙ held)

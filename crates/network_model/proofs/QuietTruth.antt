@@ -111,6 +111,5 @@ quiet_is_true s i v rest at =
     }
 
 pub quiet_has_wired_tables : QuietHasWiredTables
-quiet_has_wired_tables s i v sound quiet fresh few at =
-    let rest = (quiet_says s).quiet.0 quiet in
-    quiet_is_true s i v (record { sound = sound; calm = rest.0; bodies = rest.1; fresh = fresh; few = few }) at
+quiet_has_wired_tables s i v sound quiet one fresh few at =
+    quiet_is_true s i v (record { sound = sound; calm = (quiet_says s).quiet.0 quiet; bodies = one; fresh = fresh; few = few }) at

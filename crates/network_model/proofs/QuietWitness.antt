@@ -1,34 +1,26 @@
 -- A quiet network: two bridges, and a link between them that went down again.
 use Rattle.std.proofs.Common.{◌≡◌, inl, inr, ◌-◌, ℕ, zero, suc, Bool, true, false, true≢false, nat_le, List, [], ◌∷◌, ◌++◌, length, refl, sym, ap, ◌∙◌, subst, Option, Some, None, slice_get, if◌then◌else◌, arith}
-use Rattle.std.specs.Prelude.{slice_set, slice_index, IsSome, ◌||◌}
+use Rattle.std.specs.Prelude.{slice_set, ◌||◌}
 use Rattle.std.specs.List.{list_any}
 use Rattle.std.specs.FinMap.{get}
 use Rattle.std.proofs.lemmas.Bool.{cases_Bool}
-use Rattle.spb_types.specs.declared.address.BridgeId.{BridgeId}
-use Rattle.spb_types.specs.declared.address.SystemId.{SystemId}
 use Rattle.spb_types.specs.declared.address.LspId.{LspId}
 use Rattle.spb_types.specs.declared.ports.PortSet.{PortSet}
 use Rattle.spb_types.specs.Ports.{has}
 use Rattle.spb_types.proofs.PortLemmas.{has-no_ports}
-use Rattle.lsdb.specs.declared.version.Version.{Version}
 use Rattle.lsdb.specs.Entry.{Entry}
 use Rattle.lsdb.specs.Database.{srm_in, ssn_in, any_flags}
-use Rattle.lsdb.specs.Certificate.{IsClaimed}
 use Rattle.lsdb.proofs.Flags.{without_due}
-use Rattle.lsdb.proofs.LookupLemmas.{same_or_not}
-use Rattle.flooding.specs.Own.{own_id}
 use Rattle.flooding.specs.Entries.{HasFlagsAt}
 use Rattle.link_model.specs.Lanes.{no_frames}
 use Rattle.scenario.specs.declared.command.Command.{Command}
 use Rattle.scenario.specs.declared.command.Command.TheVariants as command
 use Rattle.spb_types.specs.declared.link.Dir.TheVariants.{Ab, Ba}
-use Rattle.bridge_api.specs.declared.config.BridgeConfig.{BridgeConfig}
 use Rattle.bridge_api.specs.declared.port.BridgePort.{BridgePort}
 use Rattle.bridge_api.specs.View.{BridgeView, port_in, is_up_in, is_up_at, up_ports, has_flags}
-use Rattle.bridge_api.specs.Config.{first_life, port_without_carrier, configured}
+use Rattle.bridge_api.specs.Config.{port_without_carrier}
 use Rattle.bridge_api.specs.Hearing.{with_carrier_at, with_carrier}
-use Rattle.bridge_api.specs.Step.{Input, carrier, metric, step}
-use Rattle.bridge_api.specs.Laws.{IsSoundView, claims_of}
+use Rattle.bridge_api.specs.Laws.{IsSoundView}
 use Rattle.spb_world.specs.declared.declaration.DeclaredLink.{DeclaredLink}
 use Rattle.network_model.specs.declared.kind_rule.KindRule.TheVariants as rule
 use Rattle.spb_world.specs.Reason.{reason_unless}
@@ -41,49 +33,15 @@ use Rattle.network_model.specs.Refusing.{declared_refusal}
 use Rattle.spb_world.specs.Naming.{named_link_refusal, down_refusal}
 use Rattle.network_model.specs.Play.{with_vid_more, declared, linked, named_link, at_link, next_state, played_all}
 use Rattle.network_model.specs.SoundLaws.{AreAccepted, Scene}
-use Rattle.network_model.specs.Quiet.{IsQuiet, HaveMet, AreEmpty, HaveNoFlags, HaveOneBody, IsCalm}
+use Rattle.network_model.specs.Quiet.{IsQuiet, HaveMet, AreEmpty, HaveNoFlags}
 use Rattle.network_model.specs.Convergence.{SomeNetworkIsQuiet}
-use Rattle.network_model.proofs.BridgeLaws.{steps_hold_ids, steps_keep_bridge, configured_holds_own, up_ports_are_up}
-use Rattle.network_model.proofs.SoundConfigured.{with_first_carrier, first_port, first_ports, configured_still, originated_if_changed_ports}
+use Rattle.network_model.proofs.BridgeLaws.{up_ports_are_up}
+use Rattle.network_model.proofs.SoundConfigured.{with_first_carrier, first_port, first_ports, originated_if_changed_ports}
 use Rattle.network_model.proofs.SoundMeeting.{system}
 use Rattle.network_model.proofs.SoundMet.{config}
 use Rattle.network_model.proofs.SoundPlay.{networks_are_sound}
 use Rattle.network_model.proofs.SoundWitness.{source, box, start, declarations}
 use Rattle.network_model.proofs.QuietLaws.{quiet_says}
-
--- ---- what a bridge holds that heard nothing
-
-record HoldsOwn (x : SystemId) (v : BridgeView) : Type 0 where
-  system : v.id.system ≡ x
-  held : (id : LspId) (e : Entry) → get v.database id ≡ Some e → id.system ≡ x
-
-configured_own : (c : BridgeConfig) → c.last ≡ first_life → HoldsOwn c.id.system (configured c)
-configured_own c first = record { system = ap (λ (id : BridgeId). id.system) (configured_still c).id; held = held }
-  where
-    held : (id : LspId) (e : Entry) → get (configured c).database id ≡ Some e → id.system ≡ c.id.system
-    held id e at =
-        elim (same_or_not id (own_id c.id.system)) [
-          | inl same ↦ ap (λ (y : LspId). y.system) same
-          | inr other ↦ let none : get (configured c).database id ≡ None = (configured_holds_own c first).alone id other in absurd cc
-        ]
-
-step_own : (x : SystemId) (input : Input) (v : BridgeView) → ((id : LspId) (a : Version) → IsClaimed (claims_of input) id a → ⊥) → HoldsOwn x v → HoldsOwn x (step input v)
-step_own x input v none own = record { system = ap (λ (id : BridgeId). id.system) (steps_keep_bridge input v).id ∙ own.system; held = held }
-  where
-    before : (id : LspId) (o : Option Entry) → get v.database id ≡ o → IsSome o → id.system ≡ x
-    before id None at some = absurd cc
-    before id (Some e) at some = own.held id e at
-
-    held : (id : LspId) (e : Entry) → get (step input v).database id ≡ Some e → id.system ≡ x
-    held id e at =
-        elim (steps_hold_ids input v id e at) [
-          | inl was ↦ before id (get v.database id) refl was
-          | inr new ↦
-              elim new [
-                | inl claimed ↦ absurd (none id claimed.0 claimed.1)
-                | inr number ↦ ap (λ (y : LspId). y.system) number.is ∙ own.system
-              ]
-        ]
 
 -- ---- a bridge whose only port lost carrier
 
@@ -97,20 +55,13 @@ gone_port v m is =
     ∙ (originated_if_changed_ports (record v { ports = slice_set v.ports 0 (port_without_carrier m) })
     ∙ ap (λ (ports : List BridgePort). slice_set ports 0 (port_without_carrier m)) is)
 
-gone_own : (n : ℕ) → HoldsOwn (config n).id.system (gone n)
-gone_own n =
-    step_own (config n).id.system (carrier 1 false) (with_first_carrier (config n) 10) (λ id a none. none)
-    (step_own (config n).id.system (carrier 1 true) (step (metric 1 10) (configured (config n))) (λ id a none. none)
-    (step_own (config n).id.system (metric 1 10) (configured (config n)) (λ id a none. none) (configured_own (config n) refl)))
-
--- a sound bridge whose only port has no carrier, and that holds LSPs of its own system alone
-record IsAlone (x : SystemId) (v : BridgeView) : Type 0 where
+-- a sound bridge whose only port has no carrier
+record IsAlone (v : BridgeView) : Type 0 where
   sound : IsSoundView v
   metric : ℕ
   ports : v.ports ≡ port_without_carrier metric ∷ []
-  own : HoldsOwn x v
 
-module _ (x : SystemId) (v : BridgeView) (alone : IsAlone x v) where
+module _ (v : BridgeView) (alone : IsAlone v) where
   in_one : (b : Bool) (n : ℕ) → is_up_in (if b then slice_get (port_without_carrier alone.metric ∷ []) n else None) ≡ false
   in_one false n = refl
   in_one true zero = refl
@@ -159,18 +110,10 @@ world = record {
 abbrev resting : BridgeView → BridgeView → State
 resting v w = record { rule = rule.Plain; rack = []; world = world; views = v ∷ w ∷ []; lanes = no_frames ∷ []; outs = []; rounds = 0; drained = 0; accepted = 5; ticks = 0 ∷ 0 ∷ [] }
 
-apart : (id : LspId) → id.system ≡ system 1 → id.system ≡ system 2 → ⊥
-apart id first second =
-    let last : 1 ≡ 2 = ap (λ (x : SystemId). slice_index x.mac.bytes 5) (sym first ∙ second) in
-    absurd (omega (arith, last))
-
-one_entry : (v : BridgeView) (id : LspId) (d e : Entry) → get v.database id ≡ Some d → get v.database id ≡ Some e → d.body ≡ e.body
-one_entry v id d e at_d at_e = let same : Some d ≡ Some e = sym at_d ∙ at_e in cc
-
 is_view : (v w : BridgeView) → Some v ≡ Some w → v ≡ w
 is_view v w same = cc
 
-module _ (v w : BridgeView) (first : IsAlone (system 1) v) (other : IsAlone (system 2) w) where
+module _ (v w : BridgeView) (first : IsAlone v) (other : IsAlone w) where
   met : HaveMet (resting v w)
   met = record {
     met = λ k dir l at live. none_live k l at live;
@@ -182,8 +125,8 @@ module _ (v w : BridgeView) (first : IsAlone (system 1) v) (other : IsAlone (sys
       none_live (suc k) l at live = absurd cc
 
       none_up : {P : Type 0} (i : ℕ) (u : BridgeView) (p : ℕ) → slice_get (v ∷ w ∷ []) i ≡ Some u → is_up_at u p ≡ true → P
-      none_up zero u p at up = absurd (true≢false (sym up ∙ subst (λ (x : BridgeView). is_up_at x p ≡ false) (is_view v u at) (not_up (system 1) v first p)))
-      none_up (suc zero) u p at up = absurd (true≢false (sym up ∙ subst (λ (x : BridgeView). is_up_at x p ≡ false) (is_view w u at) (not_up (system 2) w other p)))
+      none_up zero u p at up = absurd (true≢false (sym up ∙ subst (λ (x : BridgeView). is_up_at x p ≡ false) (is_view v u at) (not_up v first p)))
+      none_up (suc zero) u p at up = absurd (true≢false (sym up ∙ subst (λ (x : BridgeView). is_up_at x p ≡ false) (is_view w u at) (not_up w other p)))
       none_up (suc (suc i)) u p at up = absurd cc
 
   empty : AreEmpty (resting v w)
@@ -192,27 +135,12 @@ module _ (v w : BridgeView) (first : IsAlone (system 1) v) (other : IsAlone (sys
   empty (suc k) dir = refl
 
   flags : HaveNoFlags (resting v w)
-  flags zero u at = subst (λ (x : BridgeView). has_flags x ≡ false) (is_view v u at) (no_flags (system 1) v first)
-  flags (suc zero) u at = subst (λ (x : BridgeView). has_flags x ≡ false) (is_view w u at) (no_flags (system 2) w other)
+  flags zero u at = subst (λ (x : BridgeView). has_flags x ≡ false) (is_view v u at) (no_flags v first)
+  flags (suc zero) u at = subst (λ (x : BridgeView). has_flags x ≡ false) (is_view w u at) (no_flags w other)
   flags (suc (suc i)) u at = absurd cc
 
-  -- what bridges hold under one id is held by one bridge
-  pair_bodies : (a b : BridgeView) (id : LspId) (d e : Entry) (i j : ℕ) → slice_get (v ∷ w ∷ []) i ≡ Some a → slice_get (v ∷ w ∷ []) j ≡ Some b → get a.database id ≡ Some d → get b.database id ≡ Some e → d.body ≡ e.body
-  pair_bodies a b id d e zero zero at_a at_b at_d at_e = one_entry v id d e (ap (λ (x : BridgeView). get x.database id) (is_view v a at_a) ∙ at_d) (ap (λ (x : BridgeView). get x.database id) (is_view v b at_b) ∙ at_e)
-  pair_bodies a b id d e zero (suc zero) at_a at_b at_d at_e =
-      absurd (apart id (first.own.held id d (ap (λ (x : BridgeView). get x.database id) (is_view v a at_a) ∙ at_d)) (other.own.held id e (ap (λ (x : BridgeView). get x.database id) (is_view w b at_b) ∙ at_e)))
-  pair_bodies a b id d e (suc zero) zero at_a at_b at_d at_e =
-      absurd (apart id (first.own.held id e (ap (λ (x : BridgeView). get x.database id) (is_view v b at_b) ∙ at_e)) (other.own.held id d (ap (λ (x : BridgeView). get x.database id) (is_view w a at_a) ∙ at_d)))
-  pair_bodies a b id d e (suc zero) (suc zero) at_a at_b at_d at_e = one_entry w id d e (ap (λ (x : BridgeView). get x.database id) (is_view w a at_a) ∙ at_d) (ap (λ (x : BridgeView). get x.database id) (is_view w b at_b) ∙ at_e)
-  pair_bodies a b id d e (suc (suc i)) j at_a at_b at_d at_e = absurd cc
-  pair_bodies a b id d e zero (suc (suc j)) at_a at_b at_d at_e = absurd cc
-  pair_bodies a b id d e (suc zero) (suc (suc j)) at_a at_b at_d at_e = absurd cc
-
   rests : IsQuiet (resting v w)
-  rests =
-      let calm : IsCalm (resting v w) = record { met = met; empty = empty; flags = flags } in
-      let bodies : HaveOneBody (resting v w) = λ i j a b id d e seq sum at_a at_b at_d at_e is_d is_e. pair_bodies a b id d e i j at_a at_b at_d at_e in
-      (quiet_says (resting v w)).quiet.1 (calm, bodies)
+  rests = (quiet_says (resting v w)).quiet.1 (record { met = met; empty = empty; flags = flags })
 
 -- ---- the commands
 
@@ -232,8 +160,8 @@ both_sound =
     let views = (networks_are_sound scene).views in
     (views.0, views.1.0)
 
-gone_alone : (n : ℕ) → IsSoundView (gone n) → IsAlone (system n) (gone n)
-gone_alone n sound = record { sound = sound; metric = 10; ports = gone_port (with_first_carrier (config n) 10) 10 (first_ports (config n) 1 10 refl); own = gone_own n }
+gone_alone : (n : ℕ) → IsSoundView (gone n) → IsAlone (gone n)
+gone_alone n sound = record { sound = sound; metric = 10; ports = gone_port (with_first_carrier (config n) 10) 10 (first_ports (config n) 1 10 refl) }
 
 both_rest : IsQuiet (resting (gone 1) (gone 2))
 both_rest = rests (gone 1) (gone 2) (gone_alone 1 both_sound.0) (gone_alone 2 both_sound.1)

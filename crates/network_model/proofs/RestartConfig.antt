@@ -1,5 +1,5 @@
 -- What a blank box is configured with that takes the place of a bridge is whole, and has the metrics of its links.
-use Rattle.std.proofs.Common.{◌≡◌, ◌≤◌, ◌<◌, ◌+◌, ◌-◌, ℕ, zero, suc, List, length, refl, ap, ◌∙◌, subst, Option, Some, None, slice_get, arith}
+use Rattle.std.proofs.Common.{◌≡◌, ◌≤◌, ◌<◌, ◌+◌, ◌-◌, ℕ, zero, suc, List, length, refl, sym, ap, ◌∙◌, subst, Option, Some, None, slice_get, arith}
 use Rattle.std.specs.Prelude.{nat_le}
 use Rattle.std.specs.List.{AllByRecursion}
 use Rattle.std.specs.Option.{option_map_or}
@@ -9,15 +9,15 @@ use Rattle.spb_types.specs.declared.link.Dir.TheVariants.{Ab, Ba}
 use Rattle.link_model.specs.declared.lanes.LaneId.{LaneId}
 use Rattle.bridge_api.specs.declared.config.BridgeConfig.{BridgeConfig}
 use Rattle.bridge_api.specs.View.{BridgeView}
-use Rattle.bridge_api.specs.Config.{IsMetric, IsWhole, first_life, configured}
-use Rattle.bridge_api.proofs.Configured.{first_life_long, first_life_low}
+use Rattle.flooding.specs.Own.{last_number, own_number, own_numbers}
+use Rattle.bridge_api.specs.Config.{IsMetric, IsWhole, configured}
 use Rattle.bridge_api.specs.Laws.{IsSoundView, HasConfig}
 use Rattle.spb_world.specs.declared.declaration.DeclaredBridge.{DeclaredBridge}
 use Rattle.spb_world.specs.declared.declaration.DeclaredLink.{DeclaredLink}
 use Rattle.spb_world.specs.World.{Bridges, things_of, attached_at, IsLink}
 use Rattle.network_model.specs.State.{State, links_of}
 use Rattle.spb_world.specs.Links.{near_end, lane_out, metric_over, port_metric, port_metrics}
-use Rattle.network_model.specs.Restarting.{restart_config}
+use Rattle.network_model.specs.Restarting.{last_of, restart_config}
 use Rattle.network_model.specs.Sound.{metric_at, IsShown, IsSoundState}
 use Rattle.spb_world.proofs.BoxLemmas.{All-get}
 use Rattle.network_model.proofs.BridgeLaws.{configured_has_no_carrier}
@@ -28,6 +28,7 @@ use Rattle.network_model.proofs.SoundMetrics.{metric_of, seen}
 use Rattle.network_model.proofs.SoundEvents.{core_of}
 use Rattle.network_model.proofs.CountedMoves.{shown_at}
 use Rattle.network_model.proofs.RestartCut.{if_true}
+use Rattle.network_model.proofs.RestartBegins.{length-numbers_from, all_numbers, number_fits}
 
 -- ---- the metrics
 
@@ -75,7 +76,7 @@ near_port_metric s k l dir sound at =
 
 pub restart_whole : (s : State) (i : ℕ) (b : DeclaredBridge) → IsSoundState s → slice_get (things_of s.world.bridges) i ≡ Some b → IsWhole (restart_config s i b)
 restart_whole s i b sound at =
-    subst IsWhole (λ k. record { id = shown.id k; source = shown.source k; ports = b.ports; vids = shown.vids k; metrics = metrics; attached = attached k; last = first_life })
+    subst IsWhole (λ k. record { id = shown.id k; source = shown.source k; ports = b.ports; vids = shown.vids k; metrics = metrics; attached = attached k; last = last_of (slice_get s.views i) })
     (record {
       ports = All-get (λ (c : DeclaredBridge). c.ports ≤ 32) (things_of s.world.bridges) i b sound.world.ports at;
       metrics = length-port_metrics (links_of s) i b.ports 1;
@@ -89,8 +90,10 @@ restart_whole s i b sound at =
       each_attachment = has.each_attachment;
       attachments_apart = has.attachments_apart;
       few_isids = has.few_isids;
-      last = first_life_long;
-      each_last = first_life_low;
+      last = ap (λ (o : Option BridgeView). length (last_of o)) some.1 ∙ length-numbers_from some.0 own_numbers 0;
+      each_last =
+          subst (λ (o : Option BridgeView). AllByRecursion (λ n. n ≤ last_number) (last_of o)) (sym some.1)
+          (all_numbers (λ n. n ≤ last_number) some.0 own_numbers 0 (λ k. number_fits some.0 (own_number some.0.id.system k) (All-get IsSoundView s.views i some.0 sound.views some.1)));
     })
   where
     some : (v : BridgeView) × (slice_get s.views i ≡ Some v) × (v.id ≡ b.bridge.id)

@@ -1,7 +1,7 @@
 -- A bridge that restarts takes the sequence numbers at most 2 further: a bridge at the far end of a link that is cut
 -- originates once, and each number of the new life is one further than the highest of the old one at most.
 use Rattle.std.proofs.Common.{◌≡◌, ◌≢◌, ◌⊎◌, inl, inr, ◌≤◌, ◌<◌, ◌+◌, ℕ, zero, suc, Bool, true, false, true≢false, List, [], ◌∷◌, length, refl, sym, ap, ◌∙◌, subst, Option, Some, None, slice_get, arith}
-use Rattle.std.specs.Prelude.{◌==◌, ◌&&◌, ◌||◌, if◌then◌else◌}
+use Rattle.std.specs.Prelude.{◌==◌, ◌&&◌, ◌||◌, if◌then◌else◌, slice_set}
 use Rattle.std.specs.FinMap.{get}
 use Rattle.std.proofs.lemmas.Bool.{cases_eq, eq-eqb, ne_eqb}
 use Rattle.spb_types.specs.declared.address.BridgeId.{BridgeId}
@@ -15,15 +15,15 @@ use Rattle.lsdb.specs.declared.version.Version.{Version}
 use Rattle.lsdb.specs.Entry.{Entry}
 use Rattle.lsdb.specs.Version.{number_of}
 use Rattle.lsdb.specs.Database.{version_at, version_in}
-use Rattle.lsdb.proofs.LookupLemmas.{same_or_not}
-use Rattle.flooding.proofs.OwnNumbers.{some_number}
-use Rattle.flooding.specs.Own.{last_number, own_id, IsOwnNumber}
+use Rattle.flooding.specs.Own.{last_number, own_numbers, own_number, IsOwnNumber, is_own_number, body_in}
+use Rattle.flooding.specs.Advancing.{stays}
+use Rattle.flooding.proofs.OwnNumbers.{own_is_number, not_own}
 use Rattle.bridge_api.specs.declared.config.BridgeConfig.{BridgeConfig}
 use Rattle.bridge_api.specs.View.{BridgeView}
 use Rattle.bridge_api.specs.Config.{configured}
 use Rattle.bridge_api.specs.Step.{carrier}
 use Rattle.bridge_laws.specs.Counting.{gain_of}
-use Rattle.bridge_laws.proofs.FewHeld.{configured_holds_few}
+use Rattle.bridge_api.specs.Laws.{IsSoundView}
 use Rattle.spb_world.specs.declared.declaration.DeclaredBridge.{DeclaredBridge}
 use Rattle.spb_world.specs.declared.declaration.DeclaredLink.{DeclaredLink}
 use Rattle.spb_world.specs.declared.declaration.LinkEnd.{LinkEnd}
@@ -31,11 +31,11 @@ use Rattle.spb_world.specs.World.{World, things_of, is_between, AreApart, AllApa
 use Rattle.network_model.specs.State.{State, links_of}
 use Rattle.spb_world.specs.Links.{near_end, far_end, ends_here, end_here, end_away}
 use Rattle.network_model.specs.Events.{with_carrier_at_end, flushed}
-use Rattle.network_model.specs.Restarting.{restart_config, link_cut, cut_link, cut_from, with_link_carrier, with_carriers_from, replaced, restarted_in, restarted_as, restarted, box_at}
+use Rattle.network_model.specs.Restarting.{numbers_from, last_of, restart_config, link_cut, cut_link, cut_from, with_link_carrier, with_carriers_from, replaced, restarted_in, restarted_as, restarted, box_at}
 use Rattle.network_model.specs.Sound.{IsSoundState}
-use Rattle.network_model.specs.Counted.{IsCopy, is_held, is_said, IsWeak, hellos_to, IsOwnOf, IsCountedBy}
+use Rattle.network_model.specs.Copies.{IsCopy, is_held, is_said, IsText, text_held, text_sent, IsOrigin, HaveOrigins}
+use Rattle.network_model.specs.Counted.{IsWeak, hellos_to, IsOwnOf, IsCountedBy}
 use Rattle.spb_world.proofs.BoxLemmas.{All-get, All-set}
-use Rattle.network_model.proofs.BridgeLaws.{configured_holds_own}
 use Rattle.network_model.proofs.FitsLemmas.{link_there, alike_flushed}
 use Rattle.network_model.proofs.SoundLane.{some-is}
 use Rattle.network_model.proofs.SoundMoves.{IsCore}
@@ -48,8 +48,10 @@ use Rattle.network_model.proofs.CountedGains.{gain_at}
 use Rattle.network_model.proofs.CountedLinks.{IsTracked, tracked_from, tracked_more, counted_tracked, tracked_carrier, no_gain, gain_one, hellos-flushed}
 use Rattle.network_model.proofs.CountedRounds.{counted_more}
 use Rattle.network_model.proofs.CountsKept.{counts, carrier_at}
-use Rattle.network_model.proofs.RestartCut.{if_false, leads_away, away_is, ends_apart, cut_world, Sound-cut_from, all_cut, world-cut_from}
+use Rattle.network_model.proofs.RestartCut.{if_false, leads_away, away_is, ends_apart, cut_world, Sound-cut_from, all_cut, world-cut_from, uncut}
 use Rattle.network_model.proofs.RestartSound.{got_set, IsConfigOf, config_is, core_replaced}
+use Rattle.network_model.proofs.RestartBegins.{own_advanced, own_further, nothing_else, unspent}
+use Rattle.network_model.proofs.Origins.{CopyStems, was, owns, absent, TextStems, text_was, text_owns, first_moves, fewer_origins}
 
 -- ---- frames go
 
@@ -60,6 +62,7 @@ tracked_fewer n s lanes core fewer hellos tracked = record {
     fresh = tracked.own.fresh;
     held = tracked.own.held;
     said = λ k dir f id a among claimed. tracked.own.said k dir f id a (fewer k dir f among) claimed;
+    origins = fewer_origins s lanes fewer tracked.own.origins;
   };
   weak = λ i v id at own.
       let within = tracked.weak i v id at own in
@@ -201,80 +204,159 @@ cut_from_to (suc n) k i a s small cut =
 
 -- ---- the box is replaced
 
-module _ (s : State) (i : ℕ) (b : DeclaredBridge) (c : BridgeConfig) (place a : ℕ) (core : IsCore s) (after : IsCore (replaced s i c place)) (there : slice_get (things_of s.world.bridges) i ≡ Some b) (config : IsConfigOf s.world i b c) (reach : ℕ → ℕ) (tracked : IsTracked reach s) (low : (j : ℕ) → reach j ≤ a + 1) (ours : reach i ≤ a) where
+module _ (s : State) (i : ℕ) (b : DeclaredBridge) (c : BridgeConfig) (place a : ℕ) (core : IsCore s) (after : IsCore (replaced s i c place)) (there : slice_get (things_of s.world.bridges) i ≡ Some b) (config : IsConfigOf s i b c) (reach : ℕ → ℕ) (tracked : IsTracked reach s) (low : (j : ℕ) → reach j ≤ a + 1) (ours : reach i ≤ a) (small : a + 1 < last_number) where
   abbrev new : BridgeView
   new = configured c
 
-  id_is : new.id ≡ b.bridge.id
-  id_is = (configured_still c).id ∙ config.id
+  abbrev views : List BridgeView
+  views = slice_set s.views i new
 
-  -- it holds the own LSP alone, at number 1 at most
-  alone : (id : LspId) → id ≢ own_id new.id.system → get new.database id ≡ None
-  alone id other = (configured_holds_own c config.last).alone id (λ e. other (e ∙ ap (λ (x : BridgeId). own_id x.system) (sym (configured_still c).id)))
+  -- the bridge before it
+  old_view : (v : BridgeView) × (slice_get s.views i ≡ Some v) × (v.id ≡ b.bridge.id)
+  old_view = shown_at s i b core there
+
+  abbrev old : BridgeView
+  old = old_view.0
+
+  last : c.last ≡ numbers_from old own_numbers 0
+  last = config.last ∙ ap last_of old_view.1
+
+  system : c.id.system ≡ old.id.system
+  system = ap (λ (x : BridgeId). x.system) (config.id ∙ sym old_view.2)
+
+  same_id : new.id ≡ old.id
+  same_id = (configured_still c).id ∙ (config.id ∙ sym old_view.2)
+
+  -- its numbers are within what is allowed to it
+  number_low : (id : LspId) → IsOwnNumber old.id.system id → number_of (version_at old.database id) ≤ a
+  number_low id own =
+      let within = tracked.weak i old id old_view.1 own in
+      omega (arith, within.weak (version_at old.database id) (is_held i old old_view.1 refl), within.room, ours)
+
+  fresh_new : new.spent ≡ false
+  fresh_new = unspent old c config.whole last system (λ k below. let at_most = number_low (own_number old.id.system k) (record { number = k; below = below; is = refl }) in omega (arith, at_most, small))
+
+  -- it holds its own LSPs alone
+  alone : (id : LspId) → is_own_number old.id.system id ≡ false → get new.database id ≡ None
+  alone = nothing_else old c config.whole last system
 
   held_new : (id : LspId) (e : Entry) → get new.database id ≡ Some e → IsOwnOf s.world.bridges id
-  held_new id e held =
-      elim (same_or_not id (own_id new.id.system)) [
-        | inl same ↦
-            record {
-              place = i;
-              bridge = b;
-              there = there;
-              own = record { number = 0; below = omega (arith, some_number); is = same ∙ ap (λ (x : BridgeId). own_id x.system) id_is };
-            }
-        | inr other ↦ let none : get new.database id ≡ None = alone id other in absurd cc
-      ]
-
-  number_new : (id : LspId) → number_of (version_at new.database id) ≤ 1
-  number_new id =
-      elim (same_or_not id (own_id new.id.system)) [
-        | inl same ↦ let equal = ap (λ (x : LspId). number_of (version_at new.database x)) same in omega (arith, equal, (configured_holds_few c config.last).number)
-        | inr other ↦ let none = ap (λ (o : Option Entry). number_of (version_in o)) (alone id other) in omega (arith, none)
-      ]
+  held_new id e held = by (is_own_number old.id.system id) refl
+    where
+      by : (own : Bool) → is_own_number old.id.system id ≡ own → IsOwnOf s.world.bridges id
+      by true is =
+          record {
+            place = i;
+            bridge = b;
+            there = there;
+            own = subst (λ (x : BridgeId). IsOwnNumber x.system id) old_view.2 (own_is_number old.id.system id is);
+          }
+      by false other = let none : get new.database id ≡ None = alone id other in absurd cc
 
   -- of another bridge's ids it holds nothing
-  number_other : (id : LspId) → id.system ≢ new.id.system → number_of (version_at new.database id) ≤ 0
-  number_other id other = let none = ap (λ (o : Option Entry). number_of (version_in o)) (alone id (λ e. other (ap (λ (x : LspId). x.system) e))) in omega (arith, none)
+  number_other : (id : LspId) → id.system ≢ old.id.system → number_of (version_at new.database id) ≤ 0
+  number_other id other = let none = ap (λ (o : Option Entry). number_of (version_in o)) (alone id (not_own old.id.system id other)) in omega (arith, none)
 
-  weak_by : (id : LspId) (m most : ℕ) → IsWeak s.views s.lanes id m → number_of (version_at new.database id) ≤ most → m ≤ most → IsWeak (replaced s i c place).views s.lanes id most
+  weak_by : (id : LspId) (m most : ℕ) → IsWeak s.views s.lanes id m → number_of (version_at new.database id) ≤ most → m ≤ most → IsWeak views s.lanes id most
   weak_by id m most weak few more v (is_said k dir f among claimed) = let high = weak v (is_said k dir f among claimed) in omega (arith, high, more)
   weak_by id m most weak few more v (is_held j w at is) =
       elim (got_set s.views i new j w at) [
         | inl here ↦ let same = ap number_of (ap (λ (x : BridgeView). version_at x.database id) here.1 ∙ is) in omega (arith, same, few)
-        | inr old ↦ let high = weak v (is_held j w old.1 is) in omega (arith, high, more)
+        | inr before ↦ let high = weak v (is_held j w before.1 is) in omega (arith, high, more)
       ]
 
   -- an id of the bridge is that of the box before it
-  old_view : (v : BridgeView) × (slice_get s.views i ≡ Some v) × (v.id ≡ b.bridge.id)
-  old_view = shown_at s i b core there
+  owned_now : (v : BridgeView) (id : LspId) → new ≡ v → IsOwnNumber v.id.system id → IsOwnNumber old.id.system id
+  owned_now v id is own = subst (λ (x : BridgeId). IsOwnNumber x.system id) (ap (λ (x : BridgeView). x.id) (sym is) ∙ same_id) own
 
-  owned : (j : ℕ) (v : BridgeView) (id : LspId) → slice_get (replaced s i c place).views j ≡ Some v → IsOwnNumber v.id.system id → IsWeaklyWithin (replaced s i c place) j id (a + 1)
+  -- and none of another bridge
+  owned_beside : (j : ℕ) (v : BridgeView) (id : LspId) → j ≢ i → slice_get s.views j ≡ Some v → IsOwnNumber v.id.system id → id.system ≢ old.id.system
+  owned_beside j v id apart at own same = apart (views_apart s j i v old core at old_view.1 (sym (ap (λ (x : LspId). x.system) own.is) ∙ same))
+
+  owned : (j : ℕ) (v : BridgeView) (id : LspId) → slice_get views j ≡ Some v → IsOwnNumber v.id.system id → IsWeaklyWithin (replaced s i c place) j id (a + 1)
   owned j v id at own =
       elim (got_set s.views i new j v at) [
         | inl here ↦
-            let same : v.id ≡ old_view.0.id = ap (λ (x : BridgeView). x.id) (sym here.1) ∙ (id_is ∙ sym old_view.2) in
-            let within = tracked.weak i old_view.0 id old_view.1 (subst (λ (x : BridgeId). IsOwnNumber x.system id) same own) in
-            let few = number_new id in
+            let was_own : IsOwnNumber old.id.system id = owned_now v id here.1 own in
+            let within = tracked.weak i old id old_view.1 was_own in
+            let held = within.weak (version_at old.database id) (is_held i old old_view.1 refl) in
+            let few = own_further old c config.whole last system id was_own in
             let hellos : hellos_to (links_of s) s.lanes j ≡ hellos_to (links_of s) s.lanes i = ap (hellos_to (links_of s) s.lanes) here.0 in
-            record { most = within.most + 1; weak = weak_by id within.most (within.most + 1) within.weak (omega (arith, few)) (omega arith); room = omega (arith, within.room, ours, hellos) }
-        | inr old ↦
-            let within = tracked.weak j v id old.1 own in
+            record { most = within.most + 1; weak = weak_by id within.most (within.most + 1) within.weak (omega (arith, few, held)) (omega arith); room = omega (arith, within.room, ours, hellos) }
+        | inr before ↦
+            let within = tracked.weak j v id before.1 own in
             let below = low j in
-            let few = number_other id (λ e. old.0 (views_apart s j i v old_view.0 core old.1 old_view.1 (sym (ap (λ (x : LspId). x.system) own.is) ∙ (e ∙ ap (λ (x : BridgeId). x.system) (id_is ∙ sym old_view.2))))) in
+            let few = number_other id (owned_beside j v id before.0 before.1 own) in
             record { most = within.most; weak = weak_by id within.most within.most within.weak (omega (arith, few)) (omega arith); room = omega (arith, within.room, below) }
+      ]
+
+  -- what is held or on its way under its ids stems from the box before it, and is no further than what it holds now
+  own_origin : (id : LspId) → IsOwnNumber old.id.system id → IsOrigin views s.lanes id (get new.database id)
+  own_origin id own =
+      first_moves s.views views s.lanes s.lanes i old id (get new.database id) old_view.1 (tracked.own.origins i old id old_view.1 own)
+      (own_advanced old c config.whole last system (All-get IsSoundView s.views i old core.views old_view.1) id own) copies texts
+    where
+      copies : (x : Version) → IsCopy views s.lanes id x → CopyStems s.views s.lanes id (get new.database id) x
+      copies x (is_said k dir f among claimed) = was (is_said k dir f among claimed)
+      copies x (is_held m u at is) =
+          elim (got_set s.views i new m u at) [
+            | inl here ↦ owns (sym is ∙ ap (λ (y : BridgeView). version_at y.database id) (sym here.1))
+            | inr before ↦ was (is_held m u before.1 is)
+          ]
+
+      texts : (n x : ℕ) (body : List ℕ) → IsText views s.lanes id n x body → TextStems s.views s.lanes id (get new.database id) n x body
+      texts n x body (text_sent k dir f l among is same version whole) = text_was (text_sent k dir f l among is same version whole)
+      texts n x body (text_held m u e at held version whole) =
+          elim (got_set s.views i new m u at) [
+            | inl here ↦
+                let is : get new.database id ≡ Some e = ap (λ (y : BridgeView). get y.database id) here.1 ∙ held in
+                text_owns (ap version_in is ∙ version) (ap body_in is ∙ whole)
+            | inr before ↦ text_was (text_held m u e before.1 held version whole)
+          ]
+
+  -- of other bridges' ids it has none
+  other_origin : (j : ℕ) (w : BridgeView) (id : LspId) → slice_get s.views j ≡ Some w → IsOwnNumber w.id.system id → id.system ≢ old.id.system → IsOrigin views s.lanes id (get w.database id)
+  other_origin j w id at own apart =
+      first_moves s.views views s.lanes s.lanes j w id (get w.database id) at (tracked.own.origins j w id at own) (stays refl refl) copies texts
+    where
+      none : get new.database id ≡ None
+      none = alone id (not_own old.id.system id apart)
+
+      copies : (x : Version) → IsCopy views s.lanes id x → CopyStems s.views s.lanes id (get w.database id) x
+      copies x (is_said k dir f among claimed) = was (is_said k dir f among claimed)
+      copies x (is_held m u at_u is) =
+          elim (got_set s.views i new m u at_u) [
+            | inl here ↦ absent (sym is ∙ (ap (λ (y : BridgeView). version_at y.database id) (sym here.1) ∙ ap version_in none))
+            | inr before ↦ was (is_held m u before.1 is)
+          ]
+
+      texts : (n x : ℕ) (body : List ℕ) → IsText views s.lanes id n x body → TextStems s.views s.lanes id (get w.database id) n x body
+      texts n x body (text_sent k dir f l among is same version whole) = text_was (text_sent k dir f l among is same version whole)
+      texts n x body (text_held m u e at_u held version whole) =
+          elim (got_set s.views i new m u at_u) [
+            | inl here ↦ let no : None ≡ Some e = sym none ∙ (ap (λ (y : BridgeView). get y.database id) here.1 ∙ held) in absurd cc
+            | inr before ↦ text_was (text_held m u e before.1 held version whole)
+          ]
+
+  origins_replaced : HaveOrigins (replaced s i c place)
+  origins_replaced j w id at own =
+      elim (got_set s.views i new j w at) [
+        | inl here ↦ subst (λ (x : BridgeView). IsOrigin views s.lanes id (get x.database id)) here.1 (own_origin id (owned_now w id here.1 own))
+        | inr before ↦ other_origin j w id before.1 own (owned_beside j w id before.0 before.1 own)
       ]
 
   pub tracked_replaced : IsTracked (λ j. a + 1) (replaced s i c place)
   tracked_replaced = record {
     core = after;
     own = record {
-      fresh = All-set (λ (v : BridgeView). v.spent ≡ false) s.views i new tracked.own.fresh (configured_holds_few c config.last).unspent;
+      fresh = All-set (λ (v : BridgeView). v.spent ≡ false) s.views i new tracked.own.fresh fresh_new;
       held = λ j v id e at held.
           elim (got_set s.views i new j v at) [
             | inl here ↦ held_new id e (ap (λ (x : BridgeView). get x.database id) here.1 ∙ held)
-            | inr old ↦ tracked.own.held j v id e old.1 held
+            | inr before ↦ tracked.own.held j v id e before.1 held
           ];
       said = tracked.own.said;
+      origins = origins_replaced;
     };
     weak = owned;
   }
@@ -317,8 +399,8 @@ counted_in s a i b place sound counted small there =
     after : IsSoundState t
     after = Sound-cut_from n 0 i s sound
 
-    config : IsConfigOf t.world i b c
-    config = config_is s t i b sound world there
+    config : IsConfigOf t i b c
+    config = config_is s t i b sound world (uncut n 0 i s sound.world) there
 
     here : slice_get (things_of t.world.bridges) i ≡ Some b
     here = ap (λ (w : World). slice_get (things_of w.bridges) i) world ∙ there
@@ -330,7 +412,7 @@ counted_in s a i b place sound counted small there =
     cut = cut_from_to n 0 i a s (omega (arith, small)) start
 
     tracked : IsTracked (λ j. a + 1) u
-    tracked = tracked_replaced t i b c place a (core_of t after) (core_replaced t i b c place after (all_cut s i sound) here config) here config cut.reach cut.tracked cut.low cut.ours
+    tracked = tracked_replaced t i b c place a (core_of t after) (core_replaced t i b c place after (all_cut s i sound) here config) here config cut.reach cut.tracked cut.low cut.ours (omega (arith, small))
 
 counted_by : (s : State) (a i : ℕ) (o : Option DeclaredBridge) (box : Option ℕ) → slice_get (things_of s.world.bridges) i ≡ o → IsSoundState s → IsCountedBy a s → a + 2 < last_number → IsCountedBy (a + 2) (restarted_as s i o box)
 counted_by s a i None box there sound counted small = counted_more a (a + 2) s (omega arith) counted

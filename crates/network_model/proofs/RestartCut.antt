@@ -28,6 +28,7 @@ use Rattle.spb_world.proofs.SoundLaneIds.{turned, near-turned, at_parts, at_itse
 use Rattle.network_model.proofs.SoundMoves.{IsCore, nothing_in}
 use Rattle.network_model.proofs.SoundSteps.{in_flushed, flushed_lane}
 use Rattle.network_model.proofs.SoundCarrier.{got_changed, HaveCarrier, carriers_by}
+use Rattle.network_model.proofs.SentLanes.{changed_beside}
 use Rattle.network_model.proofs.SoundEvents.{core_of, sound_from, Sound-flushed, core_with_carrier, with_carrier_world, carrier_stands, stepped_with_metric, stepped_attached, stepped_views}
 use Rattle.network_model.proofs.CountedMoves.{is_within}
 use Rattle.network_model.proofs.CountedSent.{silent_lanes}
@@ -167,6 +168,30 @@ world-cut_link s i k (Some l) = world_if s k (end_away l i) (ends_here l i)
 pub world-cut_from : (n k i : ℕ) (s : State) → (cut_from n k i s).world ≡ s.world
 world-cut_from zero k i s = refl
 world-cut_from (suc n) k i s = world-cut_from n (k + 1) i (cut_link s i k (slice_get (links_of s) k)) ∙ world-cut_link s i k (slice_get (links_of s) k)
+
+-- ---- the bridge itself takes no notice
+
+view_beside : (on : Bool) (s : State) (e : LinkEnd) (i : ℕ) → e.bridge ≢ i → slice_get (with_carrier_at_end on s e).views i ≡ slice_get s.views i
+view_beside on s e i apart = ap (λ (vs : List BridgeView). slice_get vs i) (stepped_views (comes.carrier e.port on) s e.bridge) ∙ changed_beside (step (carrier e.port on)) s.views e.bridge i (λ is. apart (sym is))
+
+uncut_if : (s : State) (i k : ℕ) (l : DeclaredLink) (b : Bool) → ends_here l i ≡ b → l.a.bridge ≢ l.b.bridge → slice_get (if b then link_cut s k (end_away l i) else s).views i ≡ slice_get s.views i
+uncut_if s i k l true here apart =
+    let leads : LeadsAway l i = leads_away l i here in
+    let e : LinkEnd = end_away l i in
+    let far : e ≡ far_end leads.dir l = away_is l i leads.dir apart leads.near in
+    let away : e.bridge ≢ i = λ is. ends_apart leads.dir l apart (leads.near ∙ (sym is ∙ ap (λ (f : LinkEnd). f.bridge) far)) in
+    view_beside true (with_carrier_at_end false (flushed s k) e) e i away ∙ view_beside false (flushed s k) e i away
+uncut_if s i k l false here apart = refl
+
+uncut_link : (s : State) (i k : ℕ) (o : Option DeclaredLink) → slice_get (links_of s) k ≡ o → Sound s.world → slice_get (cut_link s i k o).views i ≡ slice_get s.views i
+uncut_link s i k None at sound = refl
+uncut_link s i k (Some l) at sound = uncut_if s i k l (ends_here l i) refl (link_there s k l sound at).apart
+
+pub uncut : (n k i : ℕ) (s : State) → Sound s.world → slice_get (cut_from n k i s).views i ≡ slice_get s.views i
+uncut zero k i s sound = refl
+uncut (suc n) k i s sound =
+    let t : State = cut_link s i k (slice_get (links_of s) k) in
+    uncut n (k + 1) i t (subst Sound (sym (world-cut_link s i k (slice_get (links_of s) k))) sound) ∙ uncut_link s i k (slice_get (links_of s) k) refl sound
 
 -- ---- nobody is kept
 

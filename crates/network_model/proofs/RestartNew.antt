@@ -1,44 +1,42 @@
 -- After a restart the bridge is what its configuration makes, with carrier on its links that are up.
-use Rattle.std.proofs.Common.{◌≡◌, ◌≢◌, inl, inr, ◌≤◌, ◌<◌, ◌+◌, ℕ, zero, suc, Bool, true, false, true≢false, List, [], ◌∷◌, length, refl, sym, ap, ◌∙◌, subst, Option, Some, None, slice_get, remove, arith}
-use Rattle.std.specs.Prelude.{◌==◌, ◌&&◌, nat_lt, if◌then◌else◌}
-use Rattle.std.proofs.lemmas.Bool.{eqb-true, ltb-true, leb-true}
+use Rattle.std.proofs.Common.{◌≡◌, ◌≢◌, ◌<◌, ◌+◌, ℕ, zero, suc, Bool, true, false, List, [], ◌∷◌, length, refl, sym, ap, ◌∙◌, subst, Option, Some, None, slice_get, remove, arith}
+use Rattle.std.specs.Prelude.{if◌then◌else◌}
+use Rattle.std.specs.FinMap.{get}
 use Rattle.spb_types.specs.declared.address.BridgeId.{BridgeId}
 use Rattle.spb_types.specs.declared.address.LspId.{LspId}
-use Rattle.lsdb.specs.declared.version.Version.{Version}
-use Rattle.lsdb.specs.declared.version.Version.TheVariants.{Absent, Live, Dead}
-use Rattle.lsdb.specs.Entry.{Entry}
-use Rattle.lsdb.specs.Version.{number_of, leq, IsAtMost}
-use Rattle.lsdb.specs.Database.{version_at, version_in}
-use Rattle.flooding.proofs.OwnNumbers.{some_number}
-use Rattle.flooding.specs.Own.{own_id, IsOwnNumber}
+use Rattle.lsdb.specs.Version.{number_of}
+use Rattle.lsdb.specs.Database.{Lsps, version_at}
+use Rattle.flooding.specs.Own.{own_id, own_number, own_numbers}
+use Rattle.flooding.specs.Advancing.{Advanced}
 use Rattle.spb_types.specs.Places.{changed_at}
 use Rattle.bridge_api.specs.declared.config.BridgeConfig.{BridgeConfig}
 use Rattle.bridge_api.specs.View.{BridgeView}
-use Rattle.bridge_api.specs.Config.{first_life, IsWhole, configured}
+use Rattle.bridge_api.specs.Config.{IsWhole, configured}
 use Rattle.bridge_api.specs.Step as comes
 use Rattle.bridge_api.specs.Step.{carrier, step}
 use Rattle.bridge_api.specs.Laws.{IsSoundView}
-use Rattle.bridge_laws.specs.Counting.{IsFar}
 use Rattle.bridge_api.proofs.Places.{got_at}
-use Rattle.bridge_laws.proofs.HeldIds.{own_is}
-use Rattle.bridge_laws.proofs.FewHeld.{configured_holds_few}
 use Rattle.spb_world.specs.declared.declaration.DeclaredBridge.{DeclaredBridge}
 use Rattle.spb_world.specs.declared.declaration.DeclaredLink.{DeclaredLink}
 use Rattle.spb_world.specs.declared.declaration.LinkEnd.{LinkEnd}
 use Rattle.spb_world.specs.World.{World, things_of}
 use Rattle.network_model.specs.State.{State, Spare, links_of}
 use Rattle.network_model.specs.Events.{with_carrier_at_end, flushed}
-use Rattle.network_model.specs.Restarting.{restart_config, link_cut, cut_link, cut_from, with_link_carrier, with_carriers_from, replaced, restarted_in, restarted_as, restarted, box_at}
+use Rattle.network_model.specs.Restarting.{numbers_from, last_of, restart_config, link_cut, cut_link, cut_from, with_link_carrier, with_carriers_from, replaced, restarted_in, restarted_as, restarted, box_at}
 use Rattle.spb_world.specs.Links.{ends_here, end_here, end_away}
 use Rattle.network_model.specs.Sound.{IsSoundState}
-use Rattle.network_model.specs.RestartLaws.{with_carriers, number_in, IsNew, RestartIsNew}
-use Rattle.network_model.proofs.BridgeLaws.{configured_is_sound, configured_holds_own, steps_stay_sound, steps_keep_bridge, steps_carry_database, steps_originate, steps_dont_spend}
+use Rattle.network_model.specs.RestartLaws.{with_carriers, BeginsAbove, IsNew, RestartIsNew}
+use Rattle.spb_world.proofs.BoxLemmas.{All-get}
+use Rattle.network_model.proofs.BridgeLaws.{configured_is_sound}
 use Rattle.network_model.proofs.FitsLemmas.{link_there}
 use Rattle.network_model.proofs.SentLanes.{stepped_rest}
+use Rattle.network_model.proofs.SoundConfigured.{configured_still}
 use Rattle.network_model.proofs.SoundEvents.{core_of, stepped_views, with_carrier_world}
 use Rattle.network_model.proofs.CountedMoves.{is_within, shown_at}
-use Rattle.network_model.proofs.RestartCut.{and_both, either, leads_away, here_is, world-cut_from, Sound-cut_from}
+use Rattle.network_model.proofs.RestartCut.{leads_away, here_is, world-cut_from, Sound-cut_from}
+use Rattle.network_model.proofs.RestartBegins.{advanced_at, first_further}
 use Rattle.network_model.proofs.RestartConfig.{restart_whole}
+use Rattle.network_model.proofs.CarrierComes.{carriers_come, carriers_keep_id}
 use Rattle.network_model.proofs.RestartSound.{world-with_carriers_from}
 
 -- ---- the rack, and the seconds
@@ -126,68 +124,49 @@ view_with_carriers (l ∷ ls) k i s v from two at =
     (λ m h there. two (suc m) h there)
     (view_with_link_carrier s i l (slice_get (links_of s) k) v first (two zero l refl) at)
 
--- ---- the number
+-- ---- the numbers
 
-rises : (a h : Version) → IsAtMost a h → number_of a ≤ number_of h
-unfolding leq
-rises Absent h at = omega arith
-rises (Live n x) Absent at = absurd (true≢false (sym at))
-rises (Live n x) (Live m y) at =
-    elim (either (nat_lt n m) ((n == m) && (x == y)) at) [
-      | inl less ↦ omega (arith, ltb-true n m less)
-      | inr same ↦ let equal = eqb-true n m (and_both (n == m) (x == y) same).0 in omega (arith, equal)
-    ]
-rises (Live n x) (Dead m) at = leb-true n m at
-rises (Dead n) Absent at = absurd (true≢false (sym at))
-rises (Dead n) (Live m y) at = omega (arith, ltb-true n m at)
-rises (Dead n) (Dead m) at = leb-true n m at
-
--- a bridge whose own LSP has number 1
-record IsBegun (v : BridgeView) : Type 0 where
-  sound : IsSoundView v
-  fresh : v.spent ≡ false
-  number : number_in v ≡ 1
-
-begun_step : (v : BridgeView) (p : ℕ) → IsBegun v → IsBegun (step (carrier p true) v)
-begun_step v p begun =
-    let id : LspId = own_id v.id.system in
-    let own : IsOwnNumber v.id.system id = record { number = 0; below = omega (arith, some_number); is = refl } in
-    let far : IsFar (carrier p true) v = record {
-      fresh = begun.fresh;
-      own = λ x other. let same = ap (λ (y : LspId). number_of (version_at v.database y)) (own_is v.id.system x other) in omega (arith, same, begun.number);
-      claims = λ x a claimed. absurd claimed;
-    } in
-    let w : BridgeView = step (carrier p true) v in
-    let high : number_of (version_at w.database id) ≤ number_of (version_at v.database id) + 0 = steps_originate (carrier p true) v id own begun.sound far refl in
-    let low : number_of (version_at v.database id) ≤ number_of (version_at w.database id) = rises (version_at v.database id) (version_at w.database id) ((steps_carry_database (carrier p true) v begun.sound).rises id) in
-    let same : number_in w ≡ number_of (version_at w.database id) = ap (λ (x : BridgeId). number_of (version_at w.database (own_id x.system))) (steps_keep_bridge (carrier p true) v).id in
-    record {
-      sound = steps_stay_sound (carrier p true) v tt begun.sound;
-      fresh = steps_dont_spend (carrier p true) v begun.sound far;
-      number = omega (arith, high, low, same, begun.number);
-    }
-
-begun_if : (v : BridgeView) (p : ℕ) (b : Bool) → IsBegun v → IsBegun (if b then step (carrier p true) v else v)
-begun_if v p true begun = begun_step v p begun
-begun_if v p false begun = begun
-
-begun_carriers : (ls : List DeclaredLink) (i : ℕ) (v : BridgeView) → IsBegun v → IsBegun (with_carriers ls i v)
-begun_carriers [] i v begun = begun
-begun_carriers (l ∷ ls) i v begun = begun_carriers ls i (if ends_here l i then step (carrier (end_here l i).port true) v else v) (begun_if v (end_here l i).port (ends_here l i) begun)
-
-begun_new : (c : BridgeConfig) → IsWhole c → c.last ≡ first_life → IsBegun (configured c)
-begun_new c whole first = record {
-  sound = configured_is_sound c whole;
-  fresh = (configured_holds_few c first).unspent;
-  number = ap (λ (o : Option Entry). number_of (version_in o)) (configured_holds_own c first).own;
+begins_above : (s : State) (i : ℕ) (b : DeclaredBridge) (v : BridgeView) → IsSoundState s → slice_get (things_of s.world.bridges) i ≡ Some b → slice_get s.views i ≡ Some v → BeginsAbove v (with_carriers (links_of s) i (configured (restart_config s i b)))
+begins_above s i b v sound there at = record {
+  number = λ low.
+      ap (λ (x : LspId). number_of (version_at w.database x)) (ap own_id (ap (λ (x : BridgeId). x.system) same_id))
+      ∙ (ap (λ (db : Lsps). number_of (version_at db (own_id v.id.system))) stands
+      ∙ first_further v c whole last system low);
+  own = λ k below.
+      subst (λ (db : Lsps). Advanced (get v.database (own_number v.id.system k)) (get db (own_number v.id.system k))) (sym stands)
+      (advanced_at v c whole last system (All-get IsSoundView s.views i v sound.views at) k below);
 }
+  where
+    c : BridgeConfig
+    c = restart_config s i b
+
+    w : BridgeView
+    w = with_carriers (links_of s) i (configured c)
+
+    whole : IsWhole c
+    whole = restart_whole s i b sound there
+
+    last : c.last ≡ numbers_from v own_numbers 0
+    last = ap last_of at
+
+    declared : v.id ≡ b.bridge.id
+    declared = (sound.shown i v b at there).id
+
+    system : c.id.system ≡ v.id.system
+    system = ap (λ (x : BridgeId). x.system) (sym declared)
+
+    stands : w.database ≡ (configured c).database
+    stands = carriers_come (links_of s) i (configured c) (configured_is_sound c whole)
+
+    same_id : w.id ≡ v.id
+    same_id = carriers_keep_id (links_of s) i (configured c) ∙ ((configured_still c).id ∙ sym declared)
 
 -- ---- the restart
 
 new_in : (s : State) (i : ℕ) (b : DeclaredBridge) (place : ℕ) → IsSoundState s → slice_get (things_of s.world.bridges) i ≡ Some b → IsNew s (restarted_in s i (restart_config s i b) place) i b place
 new_in s i b place sound there = record {
   view = view_with_carriers (links_of s) 0 i u (configured c) from (λ m l at. (link_there s m l sound.world at).apart) (got_at t.views i (configured c) within);
-  number = (begun_carriers (links_of s) i (configured c) (begun_new c (restart_whole s i b sound there) refl)).number;
+  above = λ v at. begins_above s i b v sound there at;
   rack = ap (λ (x : List Spare × List ℕ). x.0) (kept_carriers_from n 0 i u) ∙ ap (λ (x : List Spare × List ℕ). remove x.0 place) (kept_cut_from n 0 i s);
   world = world-with_carriers_from n 0 i u ∙ world;
   ticks = ap (λ (x : List Spare × List ℕ). x.1) (kept_carriers_from n 0 i u) ∙ ap (λ (x : List Spare × List ℕ). x.1) (kept_cut_from n 0 i s);

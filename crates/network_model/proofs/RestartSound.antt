@@ -15,7 +15,7 @@ use Rattle.adjacency.specs.Adjacency.{is_up, kept_in, neighbour_of}
 use Rattle.bridge_api.specs.declared.config.BridgeConfig.{BridgeConfig}
 use Rattle.bridge_api.specs.declared.port.BridgePort.{BridgePort}
 use Rattle.bridge_api.specs.View.{BridgeView, IsPort, port_at, neighbour_at, is_up_in, is_up_at, has_carrier_at}
-use Rattle.bridge_api.specs.Config.{first_life, IsWhole, bare, configured}
+use Rattle.bridge_api.specs.Config.{IsWhole, bare, configured}
 use Rattle.bridge_api.specs.Step as comes
 use Rattle.bridge_api.specs.Laws.{IsSoundView}
 use Rattle.bridge_api.proofs.Places.{got_at, got_beside}
@@ -27,7 +27,7 @@ use Rattle.spb_world.specs.World.{World, things_of, attached_at}
 use Rattle.network_model.specs.State.{State, links_of, HasPorts, Fits}
 use Rattle.spb_world.specs.Links.{is_live, near_end, far_end, is_at, lane_out, ends_here, end_here}
 use Rattle.network_model.specs.Events.{with_carrier_at_end}
-use Rattle.network_model.specs.Restarting.{restart_config, cut_from, with_link_carrier, with_carriers_from, replaced, restarted_in, restarted_as, restarted, box_at}
+use Rattle.network_model.specs.Restarting.{last_of, restart_config, cut_from, with_link_carrier, with_carriers_from, replaced, restarted_in, restarted_as, restarted, box_at}
 use Rattle.network_model.specs.Sound.{metric_at, ends_live_link, HaveLinkMetrics, AreAttached, IsShown, AreShown, IsFrameFrom, LinkAgrees, AllAgree, IsSoundState}
 use Rattle.spb_world.proofs.BoxLemmas.{All-set}
 use Rattle.network_model.proofs.BridgeLaws.{configured_is_sound, configured_has_no_carrier}
@@ -39,7 +39,7 @@ use Rattle.network_model.proofs.SoundCarrier.{HaveCarrier, carriers_by}
 use Rattle.network_model.proofs.SoundConfigured.{configured_still, configured_attached}
 use Rattle.network_model.proofs.SoundEvents.{core_of, sound_from, core_with_carrier, with_carrier_world, carrier_stands, stepped_with_metric, stepped_attached}
 use Rattle.network_model.proofs.CountedMoves.{is_within, shown_at}
-use Rattle.network_model.proofs.RestartCut.{if_true, if_false, LeadsAway, leads_away, is_here, here_is, near_live, IsCutOff, AreCut, all_cut, Sound-cut_from, world-cut_from}
+use Rattle.network_model.proofs.RestartCut.{if_true, if_false, LeadsAway, leads_away, is_here, here_is, near_live, IsCutOff, AreCut, all_cut, Sound-cut_from, world-cut_from, uncut}
 use Rattle.network_model.proofs.RestartConfig.{restart_whole, restart_has_metric}
 
 -- ---- one item of a list is another
@@ -75,15 +75,15 @@ not_up v p none = by (port_at v p) none
 
 -- ---- the box is replaced
 
--- the configuration is that of the declared bridge
-pub record IsConfigOf (w : World) (i : ℕ) (b : DeclaredBridge) (c : BridgeConfig) : Type 0 where
+-- the configuration is that of the declared bridge, after the life that it has
+pub record IsConfigOf (s : State) (i : ℕ) (b : DeclaredBridge) (c : BridgeConfig) : Type 0 where
   pub whole : IsWhole c
   pub id : c.id ≡ b.bridge.id
   pub source : c.source ≡ b.bridge.source
-  pub vids : c.vids ≡ w.vids
+  pub vids : c.vids ≡ s.world.vids
   pub ports : c.ports ≡ b.ports
-  pub attached : c.attached ≡ attached_at w i
-  pub last : c.last ≡ first_life
+  pub attached : c.attached ≡ attached_at s.world i
+  pub last : c.last ≡ last_of (slice_get s.views i)
 
 far-turned : (dir : Dir) (l : DeclaredLink) → far_end (turned dir) l ≡ near_end dir l
 far-turned Ab l = refl
@@ -113,7 +113,7 @@ Fits-replaced s i b c place fits there whole ports = record {
       ];
 }
 
-module _ (s : State) (i : ℕ) (b : DeclaredBridge) (c : BridgeConfig) (place : ℕ) (sound : IsSoundState s) (cut : AreCut s i) (there : slice_get (things_of s.world.bridges) i ≡ Some b) (config : IsConfigOf s.world i b c) where
+module _ (s : State) (i : ℕ) (b : DeclaredBridge) (c : BridgeConfig) (place : ℕ) (sound : IsSoundState s) (cut : AreCut s i) (there : slice_get (things_of s.world.bridges) i ≡ Some b) (config : IsConfigOf s i b c) where
   abbrev new : BridgeView
   new = configured c
 
@@ -368,15 +368,15 @@ restarted_metrics s t i b sound after world there k dir l v at at_v =
         subst (λ (m : ℕ). metric_at (configured (restart_config s m b)) (near_end dir l).port ≡ Some (near_end dir l).metric) here
         (restart_has_metric s b k l dir sound declared before port.0 port.1)
 
-pub config_is : (s t : State) (i : ℕ) (b : DeclaredBridge) → IsSoundState s → t.world ≡ s.world → slice_get (things_of s.world.bridges) i ≡ Some b → IsConfigOf t.world i b (restart_config s i b)
-config_is s t i b sound world there = record {
+pub config_is : (s t : State) (i : ℕ) (b : DeclaredBridge) → IsSoundState s → t.world ≡ s.world → slice_get t.views i ≡ slice_get s.views i → slice_get (things_of s.world.bridges) i ≡ Some b → IsConfigOf t i b (restart_config s i b)
+config_is s t i b sound world view there = record {
   whole = restart_whole s i b sound there;
   id = refl;
   source = refl;
   vids = ap (λ (w : World). w.vids) (sym world);
   ports = refl;
   attached = ap (λ (w : World). attached_at w i) (sym world);
-  last = refl;
+  last = ap last_of (sym view);
 }
 
 given_before : (x y : Bool) → (if x then false else y) ≡ true → y ≡ true
@@ -402,8 +402,8 @@ Sound-restarted_in s i b place sound there =
     after : IsSoundState t
     after = Sound-cut_from n 0 i s sound
 
-    config : IsConfigOf t.world i b (restart_config s i b)
-    config = config_is s t i b sound world there
+    config : IsConfigOf t i b (restart_config s i b)
+    config = config_is s t i b sound world (uncut n 0 i s sound.world) there
 
     here : slice_get (things_of t.world.bridges) i ≡ Some b
     here = ap (λ (w : World). slice_get (things_of w.bridges) i) world ∙ there

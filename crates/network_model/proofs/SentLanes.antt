@@ -138,7 +138,7 @@ changed_here f [] i = refl
 changed_here f (x ∷ xs) zero = refl
 changed_here f (x ∷ xs) (suc i) = changed_here f xs i
 
-changed_beside : {X : Type 0} (f : X → X) (xs : List X) (i j : ℕ) → j ≢ i → slice_get (changed_at f xs i) j ≡ slice_get xs j
+pub changed_beside : {X : Type 0} (f : X → X) (xs : List X) (i j : ℕ) → j ≢ i → slice_get (changed_at f xs i) j ≡ slice_get xs j
 changed_beside f [] i j apart = refl
 changed_beside f (x ∷ xs) zero zero apart = absurd (apart refl)
 changed_beside f (x ∷ xs) zero (suc j) apart = refl

@@ -24,17 +24,11 @@ use Rattle.spb_world.specs.declared.declaration.DeclaredBridge.{DeclaredBridge}
 use Rattle.spb_world.specs.declared.declaration.DeclaredLink.{DeclaredLink}
 use Rattle.spb_world.specs.World.{Bridges, things_of}
 use Rattle.network_model.specs.State.{State, links_of}
+pub use Rattle.network_model.specs.Copies.{IsCopy, is_held, is_said}
+use Rattle.network_model.specs.Copies.{HaveOrigins}
 use Rattle.spb_world.specs.Links.{far_end}
 
--- ---- the copies of an LSP
-
--- a version of an id is held by some bridge, or claimed in a frame on its way. A bridge that doesn't hold the id holds
--- the absent version of it, whose number is 0
-pub data IsCopy (views : List BridgeView) (lanes : List LinkLanes) (id : LspId) (a : Version) : Type 0 where
-  is_held : (i : ℕ) (v : BridgeView) → slice_get views i ≡ Some v → version_at v.database id ≡ a
-      → IsCopy views lanes id a
-  is_said : (k : ℕ) (dir : Dir) (bytes : Frame) → IsIn bytes (lane_of lanes k dir)
-      → IsClaimed (claims_said (parsed bytes)) id a → IsCopy views lanes id a
+-- ---- bounds on the copies of an LSP
 
 -- no copy has a number above this one
 abbrev pub IsWeak : List BridgeView → List LinkLanes → LspId → ℕ → Type 0
@@ -80,14 +74,15 @@ pub record IsWithin (s : State) (i : ℕ) (v : BridgeView) (id : LspId) (allowan
   pub bound : IsBound s.views s.lanes v id most
   pub room : most + hellos_to (links_of s) s.lanes i ≤ allowance
 
--- no bridge has spent its numbers, none but declared bridges' ids are held or claimed, and the numbers of each are
--- within an allowance
+-- no bridge has spent its numbers, none but declared bridges' ids are held or claimed, what is held or on its way of
+-- each stems from the one that originates it, and the numbers of each are within an allowance
 pub record IsCountedBy (allowance : ℕ) (s : State) : Type 0 where
   pub fresh : AllByRecursion (λ v. v.spent ≡ false) s.views
   pub held : (i : ℕ) (v : BridgeView) (id : LspId) (e : Entry) → slice_get s.views i ≡ Some v
       → get v.database id ≡ Some e → IsOwnOf s.world.bridges id
   pub said : (k : ℕ) (dir : Dir) (bytes : Frame) (id : LspId) (a : Version) → IsIn bytes (lane_of s.lanes k dir)
       → IsClaimed (claims_said (parsed bytes)) id a → IsOwnOf s.world.bridges id
+  pub origins : HaveOrigins s
   pub bound : (i : ℕ) (v : BridgeView) (id : LspId) → slice_get s.views i ≡ Some v → IsOwnNumber v.id.system id
       → IsWithin s i v id allowance
 

@@ -28,6 +28,7 @@ use Rattle.network_model.specs.Refusing.{refusal_of}
 use Rattle.network_model.specs.Play.{next_state}
 use Rattle.network_model.specs.Sound.{IsSoundState}
 use Rattle.network_model.specs.SoundLaws.{MayAttach, MayDetach, MayEnter, ForAllPlayedWithin, IsBusy}
+use Rattle.network_model.specs.Copies.{HaveOneBody}
 use Rattle.network_model.specs.Counted.{IsCopy, IsCountedBy, IsCounted, most_commands}
 
 -- ---- the events
@@ -89,6 +90,10 @@ BridgesStayFar = (s : State) (k : ℕ) (dir : Dir) (l : DeclaredLink) (v : Bridg
 abbrev pub NothingIsFull : Type 0
 NothingIsFull = (s : State) (i : ℕ) (v : BridgeView) (rule : Relation → Option Entry → Option Entry) (up : PortSet)
     (c : Claim) → IsSoundState s → IsCounted s → slice_get s.views i ≡ Some v → is_full rule up c (holding_of v) ≡ false
+
+-- so no two bridges hold different bodies of an LSP under one live version
+abbrev pub OriginsGiveOneBody : Type 0
+OriginsGiveOneBody = (s : State) → IsSoundState s → IsCounted s → HaveOneBody s
 
 -- some network in which a frame is on its way is such a one
 pub record SomeCountedIsBusy : Type 0 where

@@ -17,6 +17,7 @@ pub mod PathLaws
 pub mod WiringLaws
 pub mod DeliveryLaws
 pub mod MeetingLaws
+pub mod Copies
 pub mod Counted
 pub mod CountedLaws
 pub mod RestartLaws

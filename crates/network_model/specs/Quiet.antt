@@ -1,13 +1,7 @@
--- When a network is quiet: four conditions, each as a test and as it reads.
+-- When a network is quiet: three conditions, each as a test and as it reads.
 use Rattle.std.specs.Prelude.{◌≡◌, ◌↔◌, ℕ, ◌+◌, List, [], ◌∷◌, ◌++◌, length, Bool, true, false, not, ◌&&◌, ◌||◌, ◌==◌, Option, Some, None, slice_get, if◌then◌else◌}
 use Rattle.std.specs.List.{list_all}
-use Rattle.std.specs.Str.{bytes_eq}
-use Rattle.std.specs.FinMap.{get, entries}
-use Rattle.spb_types.specs.declared.address.LspId.{LspId}
 use Rattle.spb_types.specs.declared.link.Dir.{Dir}
-use Rattle.lsdb.specs.declared.version.Version.{Version}
-use Rattle.lsdb.specs.declared.version.Version.TheVariants.{Live}
-use Rattle.lsdb.specs.Entry.{Entry}
 use Rattle.link_model.specs.declared.lanes.LinkLanes.{LinkLanes}
 use Rattle.link_model.specs.Lanes.{lane_of}
 use Rattle.adjacency.specs.Hearing.{End, same_end}
@@ -68,29 +62,6 @@ holds_q2 s = list_all is_idle s.lanes
 unfoldable pub holds_q3 : State → Bool
 holds_q3 s = list_all (λ v. not (has_flags v)) s.views
 
--- ---- q4: no two bridges hold different bodies under one LSP id, sequence number and checksum, both live
-
--- two versions are live, of one number and one checksum
-abbrev pub is_same_live : Version → Version → Bool
-is_same_live (Live n s) (Live m t) = (n == m) && (s == t)
-is_same_live _ _ = false
-
--- what is held under the same id, if anything, has another version or this body
-abbrev pub agrees_with : Option Entry → Entry → Bool
-agrees_with None e = true
-agrees_with (Some d) e = not (is_same_live e.version d.version) || bytes_eq e.body d.body
-
--- so it is for each id that the first of two bridges holds
-abbrev pub agree_on_bodies : BridgeView → BridgeView → Bool
-agree_on_bodies v w = list_all (λ e. agrees_with (get w.database e.0) e.1) (entries v.database)
-
--- no two of these bridges hold different bodies under one id with one live version
-abbrev pub have_one_body : List BridgeView → Bool
-have_one_body views = list_all (λ v. list_all (agree_on_bodies v) views) views
-
-unfoldable pub holds_q4 : State → Bool
-holds_q4 s = list_all (λ v. list_all (agree_on_bodies v) s.views) s.views
-
 -- ---- quiet
 
 -- the number of a condition that fails
@@ -100,7 +71,6 @@ unless_holds n b = if b then [] else n ∷ []
 -- the numbers of the conditions that fail, in ascending order
 unfoldable pub failing : State → List ℕ
 failing s = unless_holds 1 (holds_q1 s) ++ unless_holds 2 (holds_q2 s) ++ unless_holds 3 (holds_q3 s)
-    ++ unless_holds 4 (holds_q4 s)
 
 -- none fails
 abbrev pub IsQuiet : State → Type 0
@@ -132,14 +102,7 @@ AreEmpty s = (k : ℕ) (dir : Dir) → lane_of s.lanes k dir ≡ []
 abbrev pub HaveNoFlags : State → Type 0
 HaveNoFlags s = (i : ℕ) (v : BridgeView) → slice_get s.views i ≡ Some v → has_flags v ≡ false
 
--- q4: what two bridges hold under one id with one live version has one body
-abbrev pub HaveOneBody : State → Type 0
-HaveOneBody s = (i j : ℕ) (v w : BridgeView) (id : LspId) (d e : Entry) (seq sum : ℕ)
-    → slice_get s.views i ≡ Some v → slice_get s.views j ≡ Some w
-    → get v.database id ≡ Some d → get w.database id ≡ Some e
-    → d.version ≡ Live seq sum → e.version ≡ Live seq sum → d.body ≡ e.body
-
--- q1 to q3
+-- all three
 pub record IsCalm (s : State) : Type 0 where
   pub met : HaveMet s
   pub empty : AreEmpty s
@@ -150,8 +113,7 @@ pub record SaysWhatItReadsLike (s : State) : Type 0 where
   pub q1 : (holds_q1 s ≡ true) ↔ HaveMet s
   pub q2 : (holds_q2 s ≡ true) ↔ AreEmpty s
   pub q3 : (holds_q3 s ≡ true) ↔ HaveNoFlags s
-  pub q4 : (holds_q4 s ≡ true) ↔ HaveOneBody s
-  pub quiet : IsQuiet s ↔ (IsCalm s × HaveOneBody s)
+  pub quiet : IsQuiet s ↔ IsCalm s
 
 abbrev pub QuietSays : Type 0
 QuietSays = (s : State) → SaysWhatItReadsLike s

@@ -7,7 +7,7 @@ use Rattle.spb_world.specs.declared.declaration.DeclaredLink.{DeclaredLink}
 use Rattle.spb_world.specs.declared.declaration.LinkEnd.{LinkEnd}
 use Rattle.network_model.specs.declared.conditions.Conditions.{Conditions}
 use Rattle.network_model.specs.State.{State, links_of}
-use Rattle.network_model.specs.Quiet.{holds_q1, holds_q2, holds_q3, holds_q4, unless_holds}
+use Rattle.network_model.specs.Quiet.{holds_q1, holds_q2, holds_q3, unless_holds}
 
 -- the port at an end of a link is Up
 abbrev pub is_end_up : List BridgeView → LinkEnd → Bool
@@ -22,8 +22,8 @@ are_links_up s = list_all (is_link_up s.views) (links_of s)
 
 -- which conditions of quiet hold
 abbrev pub conditions_of : State → Conditions
-conditions_of s = record { links = holds_q1 s; lanes = holds_q2 s; flags = holds_q3 s; bodies = holds_q4 s }
+conditions_of s = record { links = holds_q1 s; lanes = holds_q2 s; flags = holds_q3 s }
 
 -- the numbers of those that fail, in ascending order
 abbrev pub numbers_of : Conditions → List ℕ
-numbers_of c = unless_holds 1 c.links ++ unless_holds 2 c.lanes ++ unless_holds 3 c.flags ++ unless_holds 4 c.bodies
+numbers_of c = unless_holds 1 c.links ++ unless_holds 2 c.lanes ++ unless_holds 3 c.flags

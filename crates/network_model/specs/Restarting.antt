@@ -1,5 +1,9 @@
 -- A bridge restarts: a blank box takes the place of its box, which is dropped with all that it held.
-use Rattle.std.specs.Prelude.{ℕ, zero, suc, ◌+◌, length, true, false, if◌then◌else◌, remove, Option, Some, None, slice_get, slice_set}
+use Rattle.std.specs.Prelude.{ℕ, zero, suc, ◌+◌, List, [], ◌∷◌, length, true, false, if◌then◌else◌, remove, Option, Some, None, slice_get, slice_set}
+use Rattle.lsdb.specs.Version.{number_of}
+use Rattle.lsdb.specs.Database.{version_at}
+use Rattle.flooding.specs.Own.{own_numbers, own_number}
+use Rattle.bridge_api.specs.View.{BridgeView}
 use Rattle.bridge_api.specs.declared.config.BridgeConfig.{BridgeConfig}
 use Rattle.bridge_api.specs.Config.{first_life, configured}
 use Rattle.spb_world.specs.declared.declaration.DeclaredBridge.{DeclaredBridge}
@@ -12,8 +16,18 @@ use Rattle.network_model.specs.Events.{with_carrier_at_end, flushed}
 
 -- ---- what the blank box is configured with
 
--- the bridge at place i as it was declared, in a first life, with the present metrics of its links and what is attached
--- to its ports
+-- the sequence numbers that a bridge has under so many of its own ids, from number k on
+abbrev pub numbers_from : BridgeView → ℕ → ℕ → List ℕ
+numbers_from v zero k = []
+numbers_from v (suc n) k = number_of (version_at v.database (own_number v.id.system k)) ∷ numbers_from v n (k + 1)
+
+-- those with which a life ends; before the first life, zeros
+abbrev pub last_of : Option BridgeView → List ℕ
+last_of None = first_life
+last_of (Some v) = numbers_from v own_numbers 0
+
+-- the bridge at place i as it was declared, with the present metrics of its links, what is attached to its ports, and
+-- the numbers with which its life ends
 abbrev pub restart_config : State → ℕ → DeclaredBridge → BridgeConfig
 restart_config s i b = record {
   id = b.bridge.id;
@@ -22,7 +36,7 @@ restart_config s i b = record {
   vids = s.world.vids;
   metrics = port_metrics (links_of s) i b.ports 1;
   attached = attached_at s.world i;
-  last = first_life;
+  last = last_of (slice_get s.views i);
 }
 
 -- ---- its links

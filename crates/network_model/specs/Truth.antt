@@ -23,7 +23,8 @@ use Rattle.spb_world.specs.World.{world_graph, wired_tables}
 use Rattle.network_model.specs.State.{State, links_of}
 use Rattle.spb_world.specs.Links.{near_end, far_end}
 use Rattle.network_model.specs.Sound.{IsSoundState}
-use Rattle.network_model.specs.Quiet.{IsQuiet, HaveOneBody, IsCalm}
+use Rattle.network_model.specs.Copies.{HaveOneBody}
+use Rattle.network_model.specs.Quiet.{IsQuiet, IsCalm}
 
 -- ---- walks
 
@@ -107,10 +108,10 @@ pub record HasWiredTables (s : State) (i : ℕ) (v : BridgeView) : Type 0 where
 abbrev pub QuietIsTrue : Type 0
 QuietIsTrue = (s : State) (i : ℕ) (v : BridgeView) → IsAtRest s → slice_get s.views i ≡ Some v → HasWiredTables s i v
 
--- and of every bridge of a sound network in which no condition of quiet fails, where no bridge has spent its sequence
--- numbers and each reads few systems
+-- and of every bridge of a sound network in which no condition of quiet fails, where no live version has two bodies, no
+-- bridge has spent its sequence numbers and each reads few systems
 abbrev pub QuietHasWiredTables : Type 0
-QuietHasWiredTables = (s : State) (i : ℕ) (v : BridgeView) → IsSoundState s → IsQuiet s
+QuietHasWiredTables = (s : State) (i : ℕ) (v : BridgeView) → IsSoundState s → IsQuiet s → HaveOneBody s
     → AllByRecursion (λ x. x.spent ≡ false) s.views
     → AllByRecursion (λ x. length (contents_of x) ≤ MOST_GRAPH_BRIDGES) s.views
     → slice_get s.views i ≡ Some v → HasWiredTables s i v

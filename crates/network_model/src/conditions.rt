@@ -1,4 +1,4 @@
-//! The four conditions of a quiet network, as they were found.
+//! The three conditions of a quiet network, as they were found.
 
 /// Which conditions of quiet hold.
 #[derive(Clone, Copy)]
@@ -9,6 +9,4 @@ pub struct Conditions {
     pub lanes: bool,
     /// No bridge has a flag.
     pub flags: bool,
-    /// No two bridges hold different bodies under one LSP id with one live version.
-    pub bodies: bool,
 }

@@ -1,7 +1,7 @@
 //! What holds of a network at every moment. Each law is the contract of a function that does nothing.
 ghost use Rattle.network_model.specs.Holding.{TheFirstReasonIsGiven};
 ghost use Rattle.network_model.specs.SoundLaws.{EventsKeepSound, CommandsKeepSound, NetworksAreSound, SomeNetworkIsBusy};
-ghost use Rattle.network_model.specs.CountedLaws.{EventsKeepCounted, CommandsKeepCounted, NetworksAreCounted, NumbersStayLow, BridgesStayFar, NothingIsFull, SomeCountedIsBusy};
+ghost use Rattle.network_model.specs.CountedLaws.{EventsKeepCounted, CommandsKeepCounted, NetworksAreCounted, NumbersStayLow, BridgesStayFar, NothingIsFull, OriginsGiveOneBody, SomeCountedIsBusy};
 ghost use Rattle.network_model.specs.WiringLaws.{SoundIsWired, NetworksAreWired};
 ghost use Rattle.network_model.specs.Truth.{QuietIsShared, QuietIsRead, QuietReadsLinks, QuietIsTrue, QuietHasWiredTables};
 ghost use Rattle.network_model.specs.PathLaws.{FramesGoOnePath, PathIsTrue};
@@ -67,7 +67,9 @@ pub fn the_first_reason_is_given()
 /// Whatever commands are accepted, at most 120,000 of them, with at most 20,000 rounds, and in whatever order frames
 /// are delivered, lost and doubled: no bridge spends its sequence numbers, and none but ids of declared bridges are
 /// held or claimed. The numbers of each are within an allowance that a round raises by 128 and a command by 2, and so
-/// are at most 2,800,000; and no database is full. Some such network has a frame on its way.
+/// are at most 2,800,000; and no database is full. No version of an LSP has a greater number than the one that the
+/// bridge holds which originates it; and no two bridges hold different bodies of an LSP under one live version. Some
+/// such network has a frame on its way.
 pub fn numbers_stay_bounded()
     ensures events { EventsKeepCounted }
     ensures step { CommandsKeepCounted }
@@ -75,10 +77,11 @@ pub fn numbers_stay_bounded()
     ensures low { NumbersStayLow }
     ensures far { BridgesStayFar }
     ensures place { NothingIsFull }
+    ensures bodies { OriginsGiveOneBody }
     ensures some { SomeCountedIsBusy }
 {}
 
-/// Each of the four conditions of a quiet network, which are tests, holds exactly where what it reads like does.
+/// Each of the three conditions of a quiet network, which are tests, holds exactly where what it reads like does.
 pub fn quiet_says_what_it_reads_like()
     ensures { QuietSays }
 {}

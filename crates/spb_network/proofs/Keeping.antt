@@ -1,5 +1,5 @@
 -- What a network keeps of the conditions of quiet stays so.
-use Rattle.std.proofs.Common.{Result, Ok, Err, OnOk, ◌≡◌, ◌≤◌, ℕ, true, false, if◌then◌else◌, None, Some, refl, sym, subst, ap, ◌∙◌, true≢false}
+use Rattle.std.proofs.Common.{Result, Ok, Err, IfOk, OnOk, ◌≡◌, ◌≤◌, ℕ, true, false, if◌then◌else◌, None, Some, refl, sym, subst, ap, ◌∙◌, true≢false}
 use Rattle.std.proofs.lemmas.Option.{same_Some}
 use Rattle.scenario.specs.declared.command.Command.{Command}
 use Rattle.scenario.specs.declared.command.Command.TheVariants as command
@@ -8,7 +8,7 @@ use Rattle.network_model.specs.State.{State}
 use Rattle.network_model.specs.declared.answer.Answer.TheVariants.{Silent, Outs}
 use Rattle.network_model.specs.Play.{played, is_event, answer_to_asked, answer_of}
 use Rattle.network_model.specs.Questions.{is_question}
-use Rattle.network_model.specs.Quiet.{holds_q1, holds_q2, holds_q3, holds_q4, failing}
+use Rattle.network_model.specs.Quiet.{holds_q1, holds_q2, holds_q3, failing}
 use Rattle.network_model.specs.Quieting.{conditions_of, numbers_of}
 use Rattle.network_model.specs.Counted.{IsCounted, most_commands}
 use Rattle.network_model.specs.Sound.{IsSoundState}
@@ -19,12 +19,12 @@ use Rattle.spb_network.specs.Applying.{IsSoundNetwork}
 
 -- the count of commands has no part in the conditions
 pub counted_conditions : (s : State) (n : ℕ) → conditions_of (record s { accepted = n }) ≡ conditions_of s
-unfolding holds_q1 holds_q2 holds_q3 holds_q4
+unfolding holds_q1 holds_q2 holds_q3
 counted_conditions s n = refl
 
 -- the conditions one by one
-pub conditions_found : (s : State) (c : Conditions) → c.links ≡ holds_q1 s → c.lanes ≡ holds_q2 s → c.flags ≡ holds_q3 s → c.bodies ≡ holds_q4 s → c ≡ conditions_of s
-conditions_found s c q1 q2 q3 q4 = λ i. record { links = q1 i; lanes = q2 i; flags = q3 i; bodies = q4 i }
+pub conditions_found : (s : State) (c : Conditions) → c.links ≡ holds_q1 s → c.lanes ≡ holds_q2 s → c.flags ≡ holds_q3 s → c ≡ conditions_of s
+conditions_found s c q1 q2 q3 = λ i. record { links = q1 i; lanes = q2 i; flags = q3 i }
 
 pub failing_is : (s : State) → numbers_of (conditions_of s) ≡ failing s
 unfolding failing
@@ -110,6 +110,11 @@ question_plays s (command.Round n) h = absurd (true≢false (sym h))
 question_plays s (command.Drain n) h = absurd (true≢false (sym h))
 question_plays s (command.Frame name port bytes) h = absurd (true≢false (sym h))
 question_plays s (command.Path from to vid) h = refl
+
+-- what follows from a result follows where it is Ok
+pub if_ok : {T E : Type 0} {P Q : T → Type 0} (r : Result T E) → ((x : T) → P x → Q x) → IfOk r P → IfOk r Q
+if_ok (Ok x) f p = f x p
+if_ok (Err e) f p = p
 
 -- what holds anyway holds where a result is Ok
 pub on_ok : {T E P : Type 0} (r : Result T E) → P → OnOk r P

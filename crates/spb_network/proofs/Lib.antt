@@ -4,7 +4,7 @@ pub mod SeenLemmas
 pub mod CommandFits
 pub mod Halts
 pub mod RestartLemmas
+pub mod LastNumbers
 pub mod QuietWalks
-pub mod QuietBodies
 pub mod QuietNumbers
 pub mod Keeping

@@ -1,5 +1,5 @@
 pub mod Network
-pub mod Bodies
+pub mod Numbers
 pub mod Applying
 pub mod Halting
 pub mod Watching

@@ -11,19 +11,19 @@
 //! call of each bridge and one for each frame that stands in a lane. A tick takes memory for an outbox with room for a
 //! frame at each port of the bridge, and a delivery none of its own. A frame that a bridge sends at several ports
 //! stands in their lanes as one, whose bytes they share. A delivery of `drain` looks for the first lane that isn't
-//! empty. A restart asks each link twice, and takes memory for the new bridge and for the metric of each of its ports.
-//! Frames are moved and not copied, and nothing grows with the number of rounds. Which conditions of quiet fail asks
-//! each link, lane and bridge once, walks over each database once with a look-up by hash for each live LSP, and takes
-//! memory for an entry of a table for each LSP id with one live version; bodies are compared where an earlier bridge
-//! holds the same version. The answer is kept until a command is played that is no question, so that the questions
-//! `state` and `show` after it take constant time for it. `show` makes the bridge's tables anew. `wiring` makes them of
-//! the fabric of the wiring (`fdb_build`), which is made at the first such question, and kept with what was searched in
-//! it until a base VID, a bridge, a link, a metric or what is attached changes. `path` makes the graph that the bridge
-//! reads and one tree in it, and looks through the bridges once for each name. An `attach` goes over what is attached
-//! at its bridge once, and where 60 ports or more are, once more for each of them, and a `detach` twice; neither takes
-//! memory for that. A `frame` goes over what is attached at its bridge once. What leaves at customer ports takes memory
-//! for its place in the answer, and is handed over with it; where nothing leaves, none is taken. Where deliveries are
-//! watched, each takes memory for its seconds and a handle of its frame; where they aren't, it costs a test of a flag.
+//! empty. A restart asks each link twice, goes over the database of the old box once for each number that the bridge
+//! originates, and takes memory for the new bridge, for these numbers and for the metric of each of its ports. Frames
+//! are moved and not copied, and nothing grows with the number of rounds. Which conditions of quiet fail asks each
+//! link, lane and bridge once, for which a bridge goes over its database; it takes no memory. The answer is kept until
+//! a command is played that is no question, so that the questions `state` and `show` after it take constant time for
+//! it. `show` makes the bridge's tables anew. `wiring` makes them of the fabric of the wiring (`fdb_build`), which is
+//! made at the first such question, and kept with what was searched in it until a base VID, a bridge, a link, a metric
+//! or what is attached changes. `path` makes the graph that the bridge reads and one tree in it, and looks through the
+//! bridges once for each name. An `attach` goes over what is attached at its bridge once, and where 60 ports or more
+//! are, once more for each of them, and a `detach` twice; neither takes memory for that. A `frame` goes over what is
+//! attached at its bridge once. What leaves at customer ports takes memory for its place in the answer, and is handed
+//! over with it; where nothing leaves, none is taken. Where deliveries are watched, each takes memory for its seconds
+//! and a handle of its frame; where they aren't, it costs a test of a flag.
 #![tactic(auto)]
 
 pub use apply_error::ApplyError;
@@ -33,12 +33,12 @@ pub use network_model::{Answer, Delivered, KindRule, Out};
 pub use spb_world::{DeclaredBridge, DeclaredLink, LinkEnd, Reason, World};
 
 mod apply_error;
-mod bodies;
 mod boxes;
 mod customers;
 mod events;
 mod laws;
 mod network;
+mod numbers;
 mod paths;
 mod play;
 mod questions;

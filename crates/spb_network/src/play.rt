@@ -364,16 +364,14 @@ impl<B: Bridge> NetworkOf<B> {
     }
 
     /// Keeps which conditions of quiet hold, if a command asks for them.
-    fn keep_if_asked(&mut self, command: &Command) -> Result<(), NoMemory>
+    fn keep_if_asked(&mut self, command: &Command)
         requires { IsSoundNetwork B.shown self.old }
-        ensures state { OnOk result (state_of B.shown self.new ≡ state_of B.shown self.old) }
-        ensures sound { OnOk result (IsSoundNetwork B.shown self.new) }
-        ensures halted { OnOk result (self.new.halted ≡ self.old.halted) }
+        ensures state { state_of B.shown self.new ≡ state_of B.shown self.old }
+        ensures sound { IsSoundNetwork B.shown self.new }
+        ensures halted { self.new.halted ≡ self.old.halted }
     {
         if asks_for_quiet(command) {
-            self.keep_conditions()
-        } else {
-            Ok(())
+            self.keep_conditions();
         }
     }
 
@@ -389,7 +387,7 @@ impl<B: Bridge> NetworkOf<B> {
         ensures kept { OnOk result (KeepsConditions B.shown self.new) }
     {
         self.prepare(command)?;
-        self.keep_if_asked(command)?;
+        self.keep_if_asked(command);
         self.answer(command)
     }
 

@@ -1,4 +1,4 @@
-//! Whether a network is quiet: which of the four conditions fail.
+//! Whether a network is quiet: which of the three conditions fail.
 ghost use Rattle.std.specs.Prelude.{◌≡◌, ◌++◌, false, true, not, slice_get, IfOk, OnOk};
 ghost use Rattle.std.specs.List.{list_all};
 ghost use Rattle.std.specs.Option.{option_map_or};
@@ -11,7 +11,6 @@ ghost use Rattle.network_model.specs.State.{IsPortAt, links_of};
 ghost use Rattle.network_model.specs.Quiet.{holds_q1, holds_q2, holds_q3, failing, unless_holds};
 ghost use Rattle.network_model.specs.Quieting.{is_end_up, is_link_up, conditions_of, numbers_of};
 
-use crate::bodies::have_one_body;
 use crate::{LinkEnd, NetworkOf};
 use adjacency::AdjState;
 use bridge_api::Bridge;
@@ -83,7 +82,6 @@ fn numbers_of(alloc: Global, found: Conditions) -> Result<Vec<u8>, NoMemory>
     note_unless(found.links, 1, &mut numbers)?;
     note_unless(found.lanes, 2, &mut numbers)?;
     note_unless(found.flags, 3, &mut numbers)?;
-    note_unless(found.bodies, 4, &mut numbers)?;
     Ok(numbers)
 }
 
@@ -133,50 +131,47 @@ impl<B: Bridge> NetworkOf<B> {
     }
 
     /// Which conditions hold, found anew.
-    fn find_conditions(&self) -> Result<Conditions, NoMemory>
+    fn find_conditions(&self) -> Conditions
         requires { IsSoundNetwork B.shown self.now }
-        ensures { IfOk result (λ found. found ≡ conditions_of (state_of B.shown self.now)) }
+        ensures { result ≡ conditions_of (state_of B.shown self.now) }
     {
-        Ok(Conditions {
+        Conditions {
             links: self.are_links_up(),
             lanes: self.are_lanes_empty(),
             flags: self.are_flags_clear(),
-            bodies: have_one_body(self.alloc, &self.boxes)?,
-        })
+        }
     }
 
     /// Which conditions hold: those that are kept, or else found anew.
-    fn conditions(&self) -> Result<Conditions, NoMemory>
+    fn conditions(&self) -> Conditions
         requires { IsSoundNetwork B.shown self.now }
-        ensures { IfOk result (λ found. found ≡ conditions_of (state_of B.shown self.now)) }
+        ensures { result ≡ conditions_of (state_of B.shown self.now) }
     {
         match self.conditions {
-            Some(kept) => Ok(kept),
+            Some(kept) => kept,
             None => self.find_conditions(),
         }
     }
 
     /// Keeps which conditions hold.
-    pub(crate) fn keep_conditions(&mut self) -> Result<(), NoMemory>
+    pub(crate) fn keep_conditions(&mut self)
         requires { IsSoundNetwork B.shown self.old }
-        ensures state { OnOk result (state_of B.shown self.new ≡ state_of B.shown self.old) }
-        ensures sound { OnOk result (IsSoundNetwork B.shown self.new) }
-        ensures halted { OnOk result (self.new.halted ≡ self.old.halted) }
+        ensures state { state_of B.shown self.new ≡ state_of B.shown self.old }
+        ensures sound { IsSoundNetwork B.shown self.new }
+        ensures halted { self.new.halted ≡ self.old.halted }
     {
-        let found = self.conditions()?;
+        let found = self.conditions();
         self.conditions = Some(found);
-        Ok(())
     }
 
     /// The numbers of the conditions of quiet that fail, in ascending order: 1 both ends of each link that is up are
-    /// Up with each other and no other port is Up, 2 no frame is on its way, 3 no bridge has a flag, 4 no two bridges
-    /// hold different bodies under one LSP id with one live version. None fails exactly where the network is quiet.
+    /// Up with each other and no other port is Up, 2 no frame is on its way, 3 no bridge has a flag. None fails exactly
+    /// where the network is quiet.
     pub fn failing(&self) -> Result<Vec<u8>, NoMemory>
         requires halted { self.now.halted ≡ false }
         requires ready { IsReady B.shown self.now }
         ensures { IfOk result (λ numbers. numbers.items ≡ failing (state_of B.shown self.now)) }
     {
-        let found = self.conditions()?;
-        numbers_of(self.alloc, found)
+        numbers_of(self.alloc, self.conditions())
     }
 }

@@ -10,9 +10,10 @@ ghost use Rattle.network_model.specs.Play as play;
 ghost use Rattle.spb_network.specs.Network.{state_of, AreConfigured, IsInOrder, IsBlankAt};
 ghost use Rattle.spb_network.specs.Applying.{IsSoundNetwork};
 
+use crate::numbers::last_numbers;
 use crate::rack::{kind_at, next_box};
 use crate::{DeclaredBridge, DeclaredLink, LinkEnd, NetworkOf, Reason, boxes};
-use bridge_api::{Bridge, BridgeConfig, first_life};
+use bridge_api::{Bridge, BridgeConfig};
 use spb_types::{Name, NoMemory, Seq};
 use spb_world::link_ends::{end_away, end_here, ends_here};
 use spb_world::reason_unless;
@@ -53,13 +54,15 @@ impl<B: Bridge> NetworkOf<B> {
 
     /// What a blank box is configured with that takes the place of a declared bridge.
     fn restart_config(&self, i: usize, bridge: DeclaredBridge) -> Result<BridgeConfig, NoMemory>
+        requires sound { IsSoundNetwork B.shown self.now }
+        requires bridge { slice_get (things_of self.now.world.bridges) i ≡ Some bridge }
         ensures { IfOk result (λ config. config
             ≡ restart.restart_config (state_of B.shown self.now) i bridge) }
     {
         let vids = Vec::from_slice(self.alloc, self.world.vids())?;
         let metrics = self.port_metrics(i, bridge.ports)?;
         let attached = self.world.attached(self.alloc, i)?;
-        let last = first_life(self.alloc)?;
+        let last = last_numbers(self.alloc, &self.boxes, i, bridge.bridge.id.system)?;
         Ok(BridgeConfig {
             id: bridge.bridge.id,
             source: bridge.bridge.source,

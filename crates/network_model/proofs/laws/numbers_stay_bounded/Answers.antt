@@ -1,5 +1,5 @@
 use Rattle.network_model.proofs.CountedPlay.{events_keep_counted, commands_keep_counted, networks_are_counted}
-use Rattle.network_model.proofs.CountedEnds.{numbers_stay_low, bridges_stay_far, nothing_is_full, some_counted_is_busy}
+use Rattle.network_model.proofs.CountedEnds.{numbers_stay_low, bridges_stay_far, nothing_is_full, origins_give_one_body, some_counted_is_busy}
 use Rattle.network_model.proofs.laws.numbers_stay_bounded.Goals as goal
 
 pub returns-clause-events : goal.returns-clause-events
@@ -19,6 +19,9 @@ returns-clause-far c = bridges_stay_far
 
 pub returns-clause-place : goal.returns-clause-place
 returns-clause-place c = nothing_is_full
+
+pub returns-clause-bodies : goal.returns-clause-bodies
+returns-clause-bodies c = origins_give_one_body
 
 pub returns-clause-some : goal.returns-clause-some
 returns-clause-some c = some_counted_is_busy

@@ -8,5 +8,5 @@ returns-clause-sound g c = record {
   state = c.requires.state;
   counted = c.requires.counted;
   outs = c.requires.outs;
-  kept = found_kept (state_of g.B.Bridge.shown c.args.self.now) c.in_ok-found.found c.in_ok-found.ensures;
+  kept = found_kept (state_of g.B.Bridge.shown c.args.self.now) c.conditions.result c.conditions.ensures;
 }
