@@ -155,7 +155,7 @@ psnp_settles_nothing v entries p was = saying_settles (heard_psnp entries p v) (
 
 -- an entry changed that lasts as long
 mapped_ages : (least more : ℕ) (f : Entry → Entry) (o : Option Entry) → ((e : Entry) → Ages more (Some e) → Ages least (Some (f e))) → Ages more o → Ages least (option_map f o)
-mapped_ages least more f None keeps ages live = absurd cc
+mapped_ages least more f None keeps ages = λ live. absurd cc
 mapped_ages least more f (Some e) keeps ages = keeps e ages
 
 left_last : (p : ℕ) (port : BridgePort) (v : BridgeView) → Last 301 v → Last 301 (left_up p port v)

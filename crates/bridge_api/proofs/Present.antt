@@ -115,7 +115,7 @@ next_there up id body seq held true = refl
 next_there up id body seq held false = refl
 
 purged_there : (up : PortSet) (seq : ℕ) (o : Option Entry) → IsPresent (option_map (purged seq up) o)
-purged_there up seq None e is = absurd cc
+purged_there up seq None = λ e is. absurd cc
 purged_there up seq (Some d) = present (purged seq up d) refl
 
 brought_present : (up : PortSet) (number : ℕ) (h : Holding) (x : LspId) → IsPresent (get h.db x) → IsPresent (get (brought_up up number h).db x)
