@@ -56,7 +56,7 @@ configured_bodies c = held_bodies (started_all c.last 0 (holding_of (bare c))) (
 pub configured_says : (c : BridgeConfig) (number : ℕ) → body_at (configured c) number ≡ body_at (bare c) number
 configured_says c number = same_at number (bodies_of (configured c)) (bodies_of (bare c)) (configured_bodies c)
 
-starts_alone : (c : BridgeConfig) → length c.last ≡ own_numbers → StartsAlone c.last (holding_of (bare c)) (holding_of (configured c))
+pub starts_alone : (c : BridgeConfig) → length c.last ≡ own_numbers → StartsAlone c.last (holding_of (bare c)) (holding_of (configured c))
 unfolding configured
 starts_alone c long =
     let h : Holding = holding_of (bare c) in
@@ -174,7 +174,7 @@ first_life_long = length-replicate own_numbers 0
 pub first_life_low : AllByRecursion (λ n. n ≤ last_number) first_life
 first_life_low = zeros_low own_numbers
 
-long_first : (c : BridgeConfig) → c.last ≡ first_life → length c.last ≡ own_numbers
+pub long_first : (c : BridgeConfig) → c.last ≡ first_life → length c.last ≡ own_numbers
 long_first c first = ap length first ∙ first_life_long
 
 pub configured_unspent : (c : BridgeConfig) → c.last ≡ first_life → (configured c).spent ≡ false
