@@ -6,7 +6,7 @@ ghost use Rattle.bridge_api.specs.Duties.{SecondsServe, SecondsLeaveNothingDue};
 ghost use Rattle.bridge_laws.specs.Brief.{SentIsBrief};
 ghost use Rattle.bridge_laws.specs.Few.{ConfiguredHoldsFew, StepsHoldFew, StepsBringFew, SecondsSendFew, SecondsSendOwn};
 ghost use Rattle.bridge_api.specs.Graph.{ReadsWhatIsHeld, ReadsEachOnce, ReadsItself, ReadsOthers, OwnPortsAreApart, SaysItsNeighbours, MembersAreSaid, CutSaysNothing, SomeGraphIsOwn};
-ghost use Rattle.bridge_api.specs.Time.{NeighboursAreKept, NeighboursAreLost, KeepsSomebody, SecondsAge, LspsLast, LspsExpire, SecondsStandStill, SecondsRenew, SecondsSpend, SpentStandsStill, OwnLspLasts, OwnLspIsRenewed, AloneStaysAlone, EveryNineHundred};
+ghost use Rattle.bridge_api.specs.Time.{NeighboursAreKept, NeighboursAreLost, KeepsSomebody, SecondsAge, LspsLast, LspsExpire, SecondsStandStill, SecondsRenew, SecondsStayUnspent, SecondsSpend, SpentStandsStill, OwnLspLasts, OwnLspIsRenewed, AloneStaysAlone, EveryNineHundred};
 ghost use Rattle.bridge_laws.specs.Dropping.{DroppedFramesCountOnce, HeardFramesCountEntries, EntriesWithoutWayCountOnce, OtherEntriesCountNothing, OtherStepsCountNothing, SomeDrops};
 ghost use Rattle.bridge_laws.specs.Counting.{StepsHoldIds, StepsLearn, StepsLearnVersions, StepsAnswer, StepsOriginate, StepsDontSpend, ConfiguredIsFar, SomeIsFar};
 
@@ -165,6 +165,7 @@ pub fn silent_lsps_expire()
 pub fn own_lsps_are_renewed()
     ensures still { SecondsStandStill }
     ensures renew { SecondsRenew }
+    ensures unspent { SecondsStayUnspent }
     ensures spend { SecondsSpend }
     ensures spent { SpentStandsStill }
     ensures lasts { OwnLspLasts }
