@@ -1,5 +1,5 @@
 -- A bridge reads its graph from the live LSPs that it holds, each system's once.
-use Rattle.std.proofs.Common.{◌≡◌, inl, inr, ℕ, Bool, true, false, List, [], ◌∷◌, cond, refl, sym, ap, ◌∙◌, subst, Option, Some, None}
+use Rattle.std.proofs.Common.{◌≡◌, inl, inr, ℕ, Bool, true, false, List, [], ◌∷◌, cond, refl, sym, ap, ◌∙◌, subst, Option, Some, None, arith}
 use Rattle.std.specs.Prelude.{◌&&◌, ◌==◌, T, if◌then◌else◌}
 use Rattle.std.specs.Option.{option_map}
 use Rattle.std.specs.List.{filter_map, cons_option}
@@ -26,7 +26,15 @@ use Rattle.spb_content.specs.Local.{content_bytes}
 use Rattle.spb_content.specs.Graph.{Contents, systems_in}
 use Rattle.spb_content.proofs.Members.{Has, has_from_contains, contains_from_has, all_has}
 use Rattle.bridge_api.specs.View.{BridgeView}
-use Rattle.bridge_api.specs.Own.{local_of, own_entry, body_in, body_of, Lasts, IsAlive}
+use Rattle.bridge_api.specs.Own.{local_of, own_entry, body_in, Lasts, IsAlive}
+use Rattle.bridge_api.specs.Laws.{IsSoundView}
+use Rattle.flooding.specs.Settling.{IsLspCurrent}
+use Rattle.flooding.proofs.OwnNumbers.{some_number}
+use Rattle.spb_content.specs.Local.{IsLocal}
+use Rattle.spb_content.specs.Fragments.{part_of, fragment}
+use Rattle.spb_content.proofs.Fitting.{few_are_one}
+use Rattle.bridge_api.proofs.Bodies.{first_text, first_body}
+use Rattle.bridge_api.proofs.Saying.{sound_can_say}
 use Rattle.bridge_api.specs.Graph.{live_content, content_in_entry, read_entry, contents_of, ReadsWhatIsHeld, ReadsEachOnce, ReadsItself}
 
 -- ---- what is held under an id stands among the entries, and nothing else
@@ -175,12 +183,17 @@ alive_says : (o : Option Entry) → IsAlive o → content_in_entry o ≡ Some (c
 alive_says None alive = absurd alive
 alive_says (Some e) alive = lasting e.version e.lifetime e.body alive
 
-pub tlvs_said : (v : BridgeView) → tlvs_of_body (body_of v) ≡ content_bytes (local_of v)
-unfolding body_of
-tlvs_said v = refl
+-- number 0 says all
+pub first_says : (v : BridgeView) → IsLocal (local_of v) → content_bytes (part_of 0 (local_of v)) ≡ content_bytes (local_of v)
+unfolding fragment
+first_says v is = let one : Some (content_bytes (part_of 0 (local_of v))) ≡ Some (content_bytes (local_of v)) = (few_are_one (local_of v) is).first in cc
+
+pub first_current : (v : BridgeView) → IsSoundView v → v.spent ≡ false → IsLspCurrent (Some (first_text v)) (own_entry v 0)
+first_current v was fresh = subst (λ (b : Option (List ℕ)). IsLspCurrent b (own_entry v 0)) (first_body v) (was.own.current fresh 0 (omega (arith, some_number)))
 
 pub reads_itself : ReadsItself
 reads_itself v was fresh =
-    let says : content_in_entry (own_entry v) ≡ Some (content_in (content_bytes (local_of v))) =
-    alive_says (own_entry v) (was.own.alive fresh) ∙ ap (λ (body : List ℕ). Some (content_in body)) (ap tlvs_of_body (was.own.said fresh) ∙ tlvs_said v) in
-    contains_from_has (v.id.system, content_in (content_bytes (local_of v))) (contents_of v) (held_read v.database v.id.system (content_in (content_bytes (local_of v))) (own_entry v) refl says)
+    let current : IsLspCurrent (Some (first_text v)) (own_entry v 0) = first_current v was fresh in
+    let says : content_in_entry (own_entry v 0) ≡ Some (content_in (content_bytes (local_of v))) =
+    alive_says (own_entry v 0) current.1 ∙ (ap (λ (body : List ℕ). Some (content_in (tlvs_of_body body))) current.0 ∙ ap (λ (tlvs : List ℕ). Some (content_in tlvs)) (first_says v (sound_can_say v was).local)) in
+    contains_from_has (v.id.system, content_in (content_bytes (local_of v))) (contents_of v) (held_read v.database v.id.system (content_in (content_bytes (local_of v))) (own_entry v 0) refl says)

@@ -16,7 +16,7 @@ use Rattle.bridge_api.specs.View.{BridgeView}
 use Rattle.bridge_api.specs.Own.{local_of, own_entry, body_in}
 use Rattle.bridge_api.specs.Graph.{live_content, content_in_entry, contents_of, HoldsAs, ReadsOthers}
 use Rattle.bridge_api.specs.Laws.{CanSay}
-use Rattle.bridge_api.proofs.GraphRead.{held_read, tlvs_said}
+use Rattle.bridge_api.proofs.GraphRead.{held_read, first_says, first_current}
 use Rattle.bridge_api.proofs.Saying.{sound_can_say}
 use Rattle.bridge_laws.proofs.TimeOwn.{live_in}
 
@@ -40,8 +40,9 @@ held_as v w (Some d) (Some e) holds here there live =
 pub reads_others : ReadsOthers
 reads_others v w was fresh holds =
     let can : CanSay w = sound_can_say w was in
+    let current = first_current w was fresh in
     let says : content_in_entry (get v.database (own_id w.id.system)) ≡ Some (said_by (local_of w)) =
-    held_as v w (get v.database (own_id w.id.system)) (own_entry w) holds refl refl (live_in (own_entry w) (was.own.alive fresh)).0
-    ∙ (ap (λ (body : List ℕ). Some (content_in (tlvs_of_body body))) (was.own.said fresh)
-    ∙ ap (λ (c : Content). Some c) (ap content_in (tlvs_said w) ∙ read_again (local_of w) can.local can.fields)) in
+    held_as v w (get v.database (own_id w.id.system)) (own_entry w 0) holds refl refl (live_in (own_entry w 0) current.1).0
+    ∙ (ap (λ (body : List ℕ). Some (content_in (tlvs_of_body body))) current.0
+    ∙ ap (λ (c : Content). Some c) (ap content_in (first_says w can.local) ∙ read_again (local_of w) can.local can.fields)) in
     contains_from_has (w.id.system, said_by (local_of w)) (contents_of v) (held_read v.database w.id.system (said_by (local_of w)) (get v.database (own_id w.id.system)) refl says)
