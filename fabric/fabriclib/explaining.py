@@ -263,7 +263,7 @@ def _too_many(line: Line, _before: World) -> Finding:
             "bridge": "a script has at most 96 bridges",
             "link": "a script has at most 400 links",
             "isid": "a script has at most 4,096 services",
-            "attach": "a bridge has at most 60 different I-SIDs",
+            "attach": "a bridge has at most 960 different I-SIDs",
             "round": f"the rounds of a run are at most 20,000; {_before.seconds:,} were asked for before",
             "drain": "the deliveries that a run's `drain` lines ask for are at most 100,000,000",
         }.get(line.keyword, "a limit would be passed"),

@@ -22,7 +22,7 @@ abbrev pub IsAttachedPort : BridgeView → ℕ → Type 0
 IsAttachedPort v port = (a : Attachment) × Contains v.attached a × (a.port ≡ port)
 
 -- a customer port can be attached so: to an I-SID in a VID of the bridge, where the port is free, the other ports of
--- the I-SID are in that VID, and there are at most 60 I-SIDs afterwards
+-- the I-SID are in that VID, and there are at most 960 I-SIDs afterwards
 pub record CanAttach (v : BridgeView) (a : Attachment) : Type 0 where
   pub attachment : IsAttachment (vids_of v.vids) a
   pub agrees : AllByRecursion (λ other. AgreesWith other a) v.attached

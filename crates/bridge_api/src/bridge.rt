@@ -141,7 +141,7 @@ pub trait Bridge: Drop {
 
     /// Attaches a customer port to a service, an I-SID in a base VID (IEEE 802.1ah, 25.10). The port is free and 1 to
     /// 64; the I-SID is 1 to 16,777,215; the VID is one of the bridge, and that of the other ports of the I-SID; and
-    /// there are at most 60 I-SIDs afterwards. The bridge originates if it has something else to say.
+    /// there are at most 960 I-SIDs afterwards. The bridge originates if it has something else to say.
     fn attach(&mut self, port: u16, isid: Isid, vid: Vid) -> Result<(), NoMemory>
         requires made { (shown self.old).blank ≡ false }
         requires can { (shown self.old).view.failed ≡ false →

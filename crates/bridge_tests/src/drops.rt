@@ -178,16 +178,16 @@ fn fills_up<B: Bridge>(rt: &impl Abort, alloc: Global, a: B, b: B)
     let mut a = Made::new(rt, alloc, a, 1);
     let mut b = Made::new(rt, alloc, b, 2);
     meet(rt, &mut a, &mut b, 1);
-    fill(rt, alloc, &mut a, 2047);
-    check_place(rt, &a, 2047, (true, 0));
-    fill(rt, alloc, &mut a, 2049);
-    check_place(rt, &a, 2048, (false, 2));
+    fill(rt, alloc, &mut a, 4080);
+    check_place(rt, &a, 4080, (true, 0));
+    fill(rt, alloc, &mut a, 4082);
+    check_place(rt, &a, 4081, (false, 2));
     a.hear(rt, PSNP_OF_THREE);
     let mut want = Drops::none();
     want.raise_times(DropReason::Full, 4);
     are_equal(rt, &counts(&a), &want);
     are_equal(rt, &a.flags_at(1), &(false, true));
-    check_place(rt, &a, 2048, (false, 4));
+    check_place(rt, &a, 4081, (false, 4));
 }
 
 #[test]

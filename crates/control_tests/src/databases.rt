@@ -124,15 +124,15 @@ fn an_lsp_is_put_over_the_one_under_its_id(rt: HostRuntime) {
 }
 
 #[test]
-fn the_2049th_id_is_full(rt: HostRuntime) {
+fn the_4097th_id_is_full(rt: HostRuntime) {
     let mut db = Database::new(rt.alloc());
-    for system in 0..2048 {
-        put_absent(&rt, rt.alloc(), &mut db, id(2047 - system, 0));
+    for system in 0..4096 {
+        put_absent(&rt, rt.alloc(), &mut db, id(4095 - system, 0));
     }
-    let more = db.put(held(&rt, rt.alloc(), id(2048, 0), Version::Absent, 1, (0, 0)));
+    let more = db.put(held(&rt, rt.alloc(), id(4096, 0), Version::Absent, 1, (0, 0)));
     assert_eq!(rt; more, Err(PutError::Full));
     put_live(&rt, rt.alloc(), &mut db, id(9, 0), 1);
-    check_len(&rt, &db, 2048);
+    check_len(&rt, &db, 4096);
 }
 
 const UP: PortSet = PortSet { bits: 0b1000 };

@@ -275,10 +275,10 @@ fn no_number_comes_after_the_last(rt: HostRuntime) {
     check_row(&rt, &db, &id, row(dead(u32::MAX), 0, 1, 0b111, 0b110));
 }
 
-/// A database without a place but for an own number: 2,047 live LSPs of other ids.
+/// A database without a place but for an own number: 4,080 live LSPs of other ids.
 fn full(rt: &impl Abort, alloc: Global) -> Database {
     let mut db = Database::new(alloc);
-    for number in 0..2047 {
+    for number in 0..4080 {
         put_held(rt, alloc, &mut db, lsp_id(number, 1), live(7, 9));
     }
     db
@@ -301,7 +301,7 @@ fn a_full_database_takes_own_numbers_alone(rt: HostRuntime) {
     assert!(rt; hear(&rt, alloc, &mut db, up, 1, &named, &mut own) == Err(FloodError::Full));
     let mine = lsp(own.id(0), (3, 30, 5));
     assert!(rt; hear(&rt, alloc, &mut db, up, 1, &mine, &mut own).is_ok());
-    assert!(rt; db.version_at(&own.id(0)).number() == 4 && db.len() == 2048);
+    assert!(rt; db.version_at(&own.id(0)).number() == 4 && db.len() == 4081);
     assert!(rt; hear(&rt, alloc, &mut db, up, 1, &more, &mut own) == Err(FloodError::Full));
     let known = lsp(lsp_id(0, 1), (8, 30, 5));
     assert!(rt; hear(&rt, alloc, &mut db, up, 1, &known, &mut own).is_ok());

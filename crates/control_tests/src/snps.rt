@@ -230,20 +230,20 @@ fn check_len(rt: &impl Abort, db: &Database, len: usize) {
 #[test]
 fn entries_without_a_place_are_counted(rt: HostRuntime) {
     let alloc = rt.alloc();
-    let mut db = filled(&rt, alloc, 2048);
+    let mut db = filled(&rt, alloc, 4081);
     let entries = [
-        entry(lsp_id(3000, 0), (1, 600, 7)),
+        entry(lsp_id(5000, 0), (1, 600, 7)),
         entry(lsp_id(7, 0), (4, 600, 7)),
-        entry(lsp_id(3001, 0), (0, 0, 0)),
-        entry(lsp_id(3002, 0), (1, 600, 7)),
+        entry(lsp_id(5001, 0), (0, 0, 0)),
+        entry(lsp_id(5002, 0), (1, 600, 7)),
     ];
     hear_in_psnp(&rt, alloc, &mut db, &entries, 2);
-    check_len(&rt, &db, 2048);
+    check_len(&rt, &db, 4081);
     check_srm(&rt, &db, 7, 0b010);
     check_srm(&rt, &db, 8, 0);
     let range = (lsp_id(8, 0), lsp_id(9, 0));
     hear_in_csnp(&rt, alloc, &mut db, range, &entries, 2);
-    check_len(&rt, &db, 2048);
+    check_len(&rt, &db, 4081);
     check_srm(&rt, &db, 7, 0b010);
     check_srm(&rt, &db, 8, 0b010);
     check_srm(&rt, &db, 9, 0b010);

@@ -23,7 +23,7 @@ numbers_and_others : own_numbers + most_others ≡ MOST_LSPS
 unfolding own_numbers
 numbers_and_others = refl
 
-pub room_for_many : most_others ≡ 2047
+pub room_for_many : most_others ≡ 4080
 unfolding own_numbers
 room_for_many = refl
 

@@ -22,7 +22,7 @@ own_id system = record { system = system; pseudonode = 0; number = 0 }
 
 -- the numbers of the LSPs that a system originates are those below this one (ISO/IEC 10589, 7.3.7)
 unfoldable pub own_numbers : ℕ
-own_numbers = 1
+own_numbers = 16
 
 -- the id of a system's own LSP of a number: its pseudonode is 0
 abbrev pub own_number : SystemId → ℕ → LspId

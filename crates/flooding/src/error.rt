@@ -9,7 +9,7 @@ use thiserror::Error;
 /// Why nothing was heard.
 #[derive(Clone, Copy, Debug, PartialEq, Eq, Error)]
 pub enum FloodError {
-    /// The id isn't held and isn't an own number, and 2,047 such ids are held.
+    /// The id isn't held and isn't an own number, and 4,080 such ids are held.
     #[error("the database is full")]
     Full,
     /// No memory was found.

@@ -28,8 +28,8 @@ use std::alloc::{AllocError, Global};
 ///   sent at every Up port;
 /// - a newer or confused one of the system's own is answered instead.
 ///
-/// Each body of the system has at least one byte, and at most 2,047 ids are held that aren't own numbers. Where the id
-/// isn't held, isn't an own number, and has to go in beside 2,047 such ids, the answer is `Full` or `NoMemory`, and else
+/// Each body of the system has at least one byte, and at most 4,080 ids are held that aren't own numbers. Where the id
+/// isn't held, isn't an own number, and has to go in beside 4,080 such ids, the answer is `Full` or `NoMemory`, and else
 /// never `Full`. After an error nothing changed.
 pub fn hear_lsp(
     alloc: Global,

@@ -161,10 +161,10 @@ pub fn a_life_begins_above_the_one_before()
 {}
 
 /// While few ids are held that aren't own numbers, an own number has a place in the database, and another id has one
-/// until 2,047 are held, as many as leave it to the own numbers. Few they stay, whatever is heard, changed and brought up to
+/// until 4,080 are held, as many as leave it to the own numbers. Few they stay, whatever is heard, changed and brought up to
 /// date.
 pub fn own_numbers_have_room()
-    ensures many { most_others ≡ 2047 }
+    ensures many { most_others ≡ 4080 }
     ensures few { FewOwn }
     ensures held { OthersAreHeld }
     ensures fits { RoomFits }

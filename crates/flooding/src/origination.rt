@@ -24,7 +24,7 @@ pub const MAX_AGE: u16 = 1_200;
 /// number 4,294,967,295 it is dead instead, to be sent at every Up port, and the system is spent. A spent system
 /// originates no more.
 ///
-/// The number is one of the system's own; at most 2,047 ids are held that aren't own numbers, and each body has at least
+/// The number is one of the system's own; at most 4,080 ids are held that aren't own numbers, and each body has at least
 /// one byte. After an error nothing changed.
 pub fn originate(
     alloc: Global,

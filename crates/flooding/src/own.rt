@@ -10,7 +10,7 @@ use spb_types::{LspId, PortSet, Seq, SystemId};
 use std::alloc::Global;
 
 /// The numbers of the LSPs that a system originates are those below this one (ISO/IEC 10589, 7.3.7).
-pub const OWN_NUMBERS: u8 = 1;
+pub const OWN_NUMBERS: u8 = 16;
 
 /// A system and what it says of itself: the present bodies of its own LSPs by number, each the flags octet and then the
 /// TLVs, at least one byte; and whether it is spent, which it is once one of its LSPs would have passed sequence number
@@ -78,8 +78,8 @@ impl Own {
     /// the system has a body for goes one number further, with that body; at the last number it is dead and the system
     /// spent. Every other LSP, and each of a spent system, is dead at the claim's number. Each goes to every Up port.
     ///
-    /// Each body has at least one byte, and at most 2,047 ids are held that aren't own numbers. Where the id isn't held,
-    /// isn't an own number, and 2,047 such ids are held, the answer is `Full` or `NoMemory`, and else never `Full`. After
+    /// Each body has at least one byte, and at most 4,080 ids are held that aren't own numbers. Where the id isn't held,
+    /// isn't an own number, and 4,080 such ids are held, the answer is `Full` or `NoMemory`, and else never `Full`. After
     /// an error nothing changed.
     pub fn answer(
         &mut self,

@@ -18,7 +18,7 @@ const REFRESH_AT: u16 = 300;
 /// Originates each number whose LSP that is held isn't live with the body that the system has for it, and purges each
 /// live one that it has none for.
 ///
-/// At most 2,047 ids are held that aren't own numbers; each body has at least one byte. The one error is `NoMemory`.
+/// At most 4,080 ids are held that aren't own numbers; each body has at least one byte. The one error is `NoMemory`.
 pub fn settle(alloc: Global, db: &mut Database, up: PortSet, own: &mut Own) -> Result<(), NoMemory>
     requires few { HasFewOthers (holding db.old own.old) }
     requires bodies { HaveBytes own.old }
@@ -32,7 +32,7 @@ pub fn settle(alloc: Global, db: &mut Database, up: PortSet, own: &mut Own) -> R
 /// anything was brought up to date. Where no body was renewed since the LSPs said it, `renewed` is false: then only the
 /// lifetimes are looked at.
 ///
-/// At most 2,047 ids are held that aren't own numbers; each body has at least one byte, and the numbers without one come
+/// At most 4,080 ids are held that aren't own numbers; each body has at least one byte, and the numbers without one come
 /// last. The one error is `NoMemory`.
 pub fn keep_fresh(
     alloc: Global,

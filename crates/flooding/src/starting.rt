@@ -18,7 +18,7 @@ use std::alloc::Global;
 /// live at `last + 1` for 1,200 seconds; without one it is dead at `last`, or where that is 0, not held. At number
 /// 4,294,967,295 it is dead there, and the system is spent (ISO/IEC 10589, 7.3.16.1). It is to be sent nowhere.
 ///
-/// The number is one of the system's own; at most 2,047 ids are held that aren't own numbers, and each body has at least
+/// The number is one of the system's own; at most 4,080 ids are held that aren't own numbers, and each body has at least
 /// one byte. After an error nothing changed.
 pub fn begin(
     alloc: Global,
@@ -47,7 +47,7 @@ pub fn begin(
 
 /// Begins each own LSP above the number of this list that has its place: those that they had in the life before (0: none).
 ///
-/// There is one for each own number; at most 2,047 ids are held that aren't own numbers, and each body has at least one
+/// There is one for each own number; at most 4,080 ids are held that aren't own numbers, and each body has at least one
 /// byte. The one error is `NoMemory`.
 #[tactic(auto, unfolding(crate::specs::Own::own_numbers))]
 pub fn begin_all(

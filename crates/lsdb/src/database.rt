@@ -19,7 +19,7 @@ use std::alloc::{AllocFailed, Global};
 use std::marker::Model;
 use thiserror::Error;
 
-/// The link state database of a bridge: at most 2,048 LSPs in order of id. Contracts see it as the finite map from ids
+/// The link state database of a bridge: at most 4,096 LSPs in order of id. Contracts see it as the finite map from ids
 /// to entries.
 #[derive(Debug, Drop)]
 pub struct Database {
@@ -49,7 +49,7 @@ impl Model for Database {
 /// Why an LSP wasn't put in.
 #[derive(Clone, Copy, Debug, PartialEq, Eq, Error)]
 pub enum PutError {
-    /// The id is new, and 2,048 ids are held.
+    /// The id is new, and 4,096 ids are held.
     #[error("the database is full")]
     Full,
     /// No memory was found for a place.
@@ -195,7 +195,7 @@ impl Database {
         }
     }
 
-    /// How many ids are held, at most 2,048.
+    /// How many ids are held, at most 4,096.
     pub fn len(&self) -> usize
         ensures len { result ≡ finite.len self.now }
         ensures few { result ≤ MOST_LSPS }
@@ -292,7 +292,7 @@ impl Database {
     /// 01, and an absent one with neither. A live one has a lifetime of at least 1, and all but an absent one have a
     /// body.
     ///
-    /// `Full` exactly where the id is new and 2,048 ids are held. After an error the database is as it was.
+    /// `Full` exactly where the id is new and 4,096 ids are held. After an error the database is as it was.
     pub fn put(&mut self, held: Held) -> Result<(), PutError>
         requires { CanBeHeld held.version held.lifetime held.body }
         ensures ok { OnOk result (self.new ≡ finite.insert self.old held.id (cleaned (entry_of held))) }

@@ -149,8 +149,8 @@ fn count_entry(
 ///   sent at every Up port;
 /// - a newer or confused one of the system's own is answered instead.
 ///
-/// Each body of the system has at least one byte, and at most 2,047 ids are held that aren't own numbers. The answer is
-/// the number of entries whose id isn't held, isn't an own number, and had to go in beside 2,047 such ids; such an entry
+/// Each body of the system has at least one byte, and at most 4,080 ids are held that aren't own numbers. The answer is
+/// the number of entries whose id isn't held, isn't an own number, and had to go in beside 4,080 such ids; such an entry
 /// changes nothing, and the others are heard. After `NoMemory` some of the entries, from the first on, have been heard.
 pub fn hear_psnp(
     alloc: Global,
@@ -181,7 +181,7 @@ pub fn hear_psnp(
 /// among the entries is to be sent at the port. A dead LSP is sent there as a live one is, by a rule of this project's
 /// *profile*; the standard sends none that is dead.
 ///
-/// Each body of the system has at least one byte, and at most 2,047 ids are held that aren't own numbers. The answer is
+/// Each body of the system has at least one byte, and at most 4,080 ids are held that aren't own numbers. The answer is
 /// the number of entries that found no place, as of a PSNP. After `NoMemory` some of the entries, from the first on, have
 /// been heard, and nothing else changed.
 pub fn hear_csnp(

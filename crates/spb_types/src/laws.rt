@@ -23,8 +23,8 @@ pub fn group_addresses_differ()
     ensures { GroupAddressesDiffer }
 {}
 
-/// The limits of what is declared, held and played are 96 bridges, 400 links, 32 backbone ports and 64 customer ports,
-/// 60 I-SIDs of a bridge, 4,096 services, 1,024 addresses of an I-SID, 16 base VIDs, 65,535 bridges of a graph, 2,048
+/// The limits of what is declared, held and played are 96 bridges, 400 links, 32 backbone ports and 1,024 customer ports,
+/// 960 I-SIDs of a bridge, 4,096 services, 1,024 addresses of an I-SID, 16 base VIDs, 65,535 bridges of a graph, 4,096
 /// LSPs, 1,024 frames in a lane, 20,000 rounds, and 1,000,000 deliveries of a drain and 100,000,000 of a script; the
 /// greatest base VID is 4,094, the greatest ECT number 16, the greatest I-SID 16,777,215, the greatest metric
 /// 16,777,214, and SPSourceIDs are below 1,048,576. Definitions name these constants.
@@ -32,8 +32,8 @@ pub fn limits_are_these()
     ensures bridges { MOST_BRIDGES ≡ 96 }
     ensures links { MOST_LINKS ≡ 400 }
     ensures ports { MOST_PORTS ≡ 32 }
-    ensures customer_ports { MOST_CUSTOMER_PORTS ≡ 64 }
-    ensures isids { MOST_ISIDS ≡ 60 }
+    ensures customer_ports { MOST_CUSTOMER_PORTS ≡ 1024 }
+    ensures isids { MOST_ISIDS ≡ 960 }
     ensures services { MOST_SERVICES ≡ 4096 }
     ensures addresses { MOST_ADDRESSES ≡ 1024 }
     ensures vids { MOST_VIDS ≡ 16 }
@@ -43,7 +43,7 @@ pub fn limits_are_these()
     ensures source_ids { SOURCE_IDS ≡ 1048576 }
     ensures greatest_metric { GREATEST_METRIC ≡ 16777214 }
     ensures graph_bridges { MOST_GRAPH_BRIDGES ≡ 65535 }
-    ensures lsps { MOST_LSPS ≡ 2048 }
+    ensures lsps { MOST_LSPS ≡ 4096 }
     ensures frames { MOST_FRAMES ≡ 1024 }
     ensures rounds { MOST_ROUNDS ≡ 20000 }
     ensures deliveries { MOST_DELIVERIES ≡ 1000000 }

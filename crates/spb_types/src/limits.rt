@@ -11,10 +11,10 @@ pub const MOST_LINKS: usize = 400;
 pub const MOST_PORTS: u8 = 32;
 
 /// The most customer ports of a bridge, which are numbered from 1 on.
-pub const MOST_CUSTOMER_PORTS: u16 = 64;
+pub const MOST_CUSTOMER_PORTS: u16 = 1_024;
 
 /// The most service instances that a bridge has attached ports in.
-pub const MOST_ISIDS: usize = 60;
+pub const MOST_ISIDS: usize = 960;
 
 /// The most services of a script.
 pub const MOST_SERVICES: usize = 4_096;
@@ -44,7 +44,7 @@ pub const GREATEST_METRIC: u32 = 16_777_214;
 pub const MOST_GRAPH_BRIDGES: usize = 65_535;
 
 /// The most LSPs of a database.
-pub const MOST_LSPS: usize = 2_048;
+pub const MOST_LSPS: usize = 4_096;
 
 /// The most frames on their way in one direction of a link.
 pub const MOST_FRAMES: usize = 1_024;

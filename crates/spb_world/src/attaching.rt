@@ -70,7 +70,7 @@ fn isid_count(attached: &[Attachment]) -> usize
     count
 }
 
-/// Whether a bridge to which this is attached has at most 60 different I-SIDs, with one more. Where fewer than 60 ports
+/// Whether a bridge to which this is attached has at most 960 different I-SIDs, with one more. Where fewer than 960 ports
 /// are attached, their number tells it.
 #[tactic(auto, unfolding(crate::specs::Attaching::has_isid_room))]
 pub fn has_isid_room(attached: &[Attachment], isid: u64) -> bool
