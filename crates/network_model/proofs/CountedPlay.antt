@@ -1,5 +1,5 @@
 -- Every event and command keeps the numbers within their allowance.
-use Rattle.std.proofs.Common.{◌≡◌, ◌≤◌, ◌<◌, ◌+◌, ◌*◌, ℕ, List, [], ◌∷◌, ◌++◌, length, refl, sym, ap, ◌∙◌, Option, Some, None, arith}
+use Rattle.std.proofs.Common.{◌≡◌, ◌≤◌, ◌<◌, ◌+◌, ◌*◌, ℕ, List, [], ◌∷◌, ◌++◌, length, refl, ap, ◌∙◌, Option, Some, None, arith}
 use Rattle.std.proofs.Math.Nat.{min-eq_left}
 use Rattle.spb_types.specs.declared.address.Mac.{Mac}
 use Rattle.spb_types.specs.declared.service.SourceId.{SourceId}
@@ -13,7 +13,6 @@ use Rattle.bridge_api.specs.declared.config.BridgeConfig.{BridgeConfig}
 use Rattle.bridge_api.specs.Config.{configured}
 use Rattle.bridge_laws.specs.Few.{HoldsFew}
 use Rattle.bridge_laws.proofs.FewHeld.{configured_holds_few}
-use Rattle.spb_types.specs.declared.address.BridgeId.{BridgeId}
 use Rattle.network_model.specs.declared.answer.Out.{Out}
 use Rattle.network_model.specs.declared.kind_rule.KindRule.{KindRule}
 use Rattle.spb_world.specs.declared.declaration.DeclaredBridge.{DeclaredBridge}

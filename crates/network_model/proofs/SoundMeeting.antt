@@ -26,7 +26,7 @@ use Rattle.lsdb.specs.Certificate.{Claim, is_flagged, is_absent as is_none, is_a
 use Rattle.flooding.specs.Own.{own_numbers, own_id, flags_in, tlvs_of_body}
 use Rattle.flooding.specs.Hearing.{claim_of}
 use Rattle.flooding.specs.Entries.{IsSendable}
-use Rattle.flooding.proofs.OwnNumbers.{some_number, few_numbers}
+use Rattle.flooding.proofs.OwnNumbers.{few_numbers}
 use Rattle.flooding.proofs.SendableEntries.{sent_is_held}
 use Rattle.spb_content.specs.declared.local.Local.{Local}
 use Rattle.spb_content.specs.Local.{content_bytes}
