@@ -12,11 +12,10 @@ use Rattle.link_model.specs.Lane.{Frame}
 use Rattle.lsdb.specs.declared.version.Version.{Version}
 use Rattle.lsdb.specs.declared.version.Version.TheVariants.{Live}
 use Rattle.lsdb.specs.Entry.{Entry, AreKept, body_at}
-use Rattle.lsdb.specs.Database.{version_at, version_in}
+use Rattle.lsdb.specs.Database.{version_in}
 use Rattle.lsdb.specs.Certificate.{Claim}
 use Rattle.flooding.specs.Own.{IsOwnNumber, body_in, flags_in, tlvs_of_body}
 use Rattle.flooding.specs.Hearing.{claim_of, body_of}
-use Rattle.flooding.specs.Sending.{lsp_in}
 use Rattle.flooding.specs.Entries.{IsSendable}
 use Rattle.flooding.specs.Advancing as advancing
 use Rattle.flooding.specs.Advancing.{Advanced}
@@ -35,7 +34,7 @@ use Rattle.spb_world.specs.declared.declaration.DeclaredLink.{DeclaredLink}
 use Rattle.spb_world.proofs.BoxLemmas.{All-get}
 use Rattle.spb_world.proofs.SoundLaneIds.{turned}
 use Rattle.network_model.specs.State.{State, links_of}
-use Rattle.network_model.specs.Copies.{IsCopy, IsText, text_held, text_sent, IsOrigin, HaveOrigins}
+use Rattle.network_model.specs.Copies.{IsText, text_held, text_sent, IsOrigin, HaveOrigins}
 use Rattle.network_model.proofs.BridgeLaws.{seconds_age, steps_learn, steps_advance}
 use Rattle.network_model.proofs.SoundLane.{some-is, moved, moved_same}
 use Rattle.network_model.proofs.SoundMoves.{Comes, GoesOut, got_mapped}

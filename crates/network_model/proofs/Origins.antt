@@ -1,6 +1,6 @@
 -- What the copies of an LSP have from its origin, after a change: where each of them was there before, is what the
 -- origin holds, is dead at a number that was there, or is none.
-use Rattle.std.proofs.Common.{◌≡◌, ◌⊎◌, inl, inr, ℕ, ◌≤◌, ◌<◌, List, Option, Some, None, slice_get, refl, sym, ap, subst, ◌∙◌, arith}
+use Rattle.std.proofs.Common.{◌≡◌, ◌⊎◌, inl, inr, ℕ, ◌≤◌, List, Option, Some, None, slice_get, refl, sym, ap, subst, ◌∙◌, arith}
 use Rattle.std.specs.FinMap.{get}
 use Rattle.spb_types.specs.declared.address.LspId.{LspId}
 use Rattle.spb_types.specs.declared.link.Dir.{Dir}
@@ -12,7 +12,7 @@ use Rattle.lsdb.specs.declared.version.Version.{Version}
 use Rattle.lsdb.specs.declared.version.Version.TheVariants.{Absent, Live, Dead}
 use Rattle.lsdb.specs.Version.{number_of}
 use Rattle.lsdb.specs.Entry.{Entry}
-use Rattle.lsdb.specs.Database.{version_at, version_in}
+use Rattle.lsdb.specs.Database.{version_in}
 use Rattle.lsdb.specs.Certificate.{IsClaimed}
 use Rattle.flooding.specs.Own.{body_in}
 use Rattle.flooding.specs.Hearing.{claim_of}

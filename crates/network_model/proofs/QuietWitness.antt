@@ -20,7 +20,6 @@ use Rattle.bridge_api.specs.declared.port.BridgePort.{BridgePort}
 use Rattle.bridge_api.specs.View.{BridgeView, port_in, is_up_in, is_up_at, up_ports, has_flags}
 use Rattle.bridge_api.specs.Config.{port_without_carrier}
 use Rattle.bridge_api.specs.Hearing.{with_carrier_at, with_carrier}
-use Rattle.bridge_api.specs.Step.{carrier, metric}
 use Rattle.bridge_api.specs.Laws.{IsSoundView}
 use Rattle.spb_world.specs.declared.declaration.DeclaredLink.{DeclaredLink}
 use Rattle.network_model.specs.declared.kind_rule.KindRule.TheVariants as rule
