@@ -23,7 +23,7 @@ use Rattle.lsdb.specs.Version.{is_absent}
 use Rattle.lsdb.specs.Entry.{Entry}
 use Rattle.lsdb.specs.Database.{version_in, srm_in, ssn_in, version_at}
 use Rattle.lsdb.specs.Certificate.{Claim, IsClaimed, Certificate}
-use Rattle.flooding.specs.Own.{own_id}
+use Rattle.flooding.specs.Own.{own_id, own_numbers}
 use Rattle.flooding.specs.Room.{most_others, others}
 use Rattle.flooding.specs.Hearing.{claim_of}
 use Rattle.flooding.specs.Sending.{lsp_in}
@@ -42,7 +42,7 @@ use Rattle.adjacency.specs.Adjacency.{IsSound, said}
 use Rattle.bridge_api.specs.declared.port.BridgePort.{BridgePort}
 use Rattle.bridge_api.specs.declared.config.BridgeConfig.{BridgeConfig}
 use Rattle.bridge_api.specs.View.{BridgeView, IsPort, port_at, neighbour_at, is_up_at, has_carrier_at, is_csnp_due_at, is_port_up, metrics_of, up_ports, control_of}
-use Rattle.bridge_api.specs.Own.{local_of, own_of, holding_of, originated_if_changed, IsOwnLspCurrent}
+use Rattle.bridge_api.specs.Own.{local_of, own_of, own_entry, holding_of, originated_if_changed, IsOwnLspCurrent}
 use Rattle.spb_types.specs.declared.limits.TheConstants.{MOST_ISIDS, MOST_PORTS, MOST_VIDS, SOURCE_IDS}
 use Rattle.bridge_api.specs.Config.{IsWhole, IsOwnMac, IsMetric, IsAttachment, AgreesWith, ArePairwise, different, vids_of, bare, configured}
 use Rattle.bridge_api.specs.Parsing.{Parsed, hello_in, parsed, is_hello}
@@ -73,17 +73,19 @@ pub record HasConfig (v : BridgeView) : Type 0 where
   pub few_isids : length (different (map (λ a. a.isid.value) v.attached)) ≤ MOST_ISIDS
 
 -- the database: each LSP that is held can be written, and is read again as what is held; what an SNP says of it can be
--- written; flags stand at Up ports alone; the own id is held; and of the ids that aren't own numbers no more are held
--- than have room
+-- written; flags stand at Up ports alone; the own id is held; no own number is held that is absent; and of the ids that
+-- aren't own numbers no more are held than have room
 pub record HasDatabase (v : BridgeView) : Type 0 where
   pub sendable : AreSendable v.database
   pub sized : AreSized v.database
   pub flags : HaveFlagsAt (up_ports v) v.database
   pub own : is_absent (version_at v.database (own_id v.id.system)) ≡ false
+  pub present : (number : ℕ) (e : Entry) → number < own_numbers → own_entry v number ≡ Some e
+      → is_absent e.version ≡ false
   pub room : others v.id.system v.database ≤ most_others
 
--- a configured bridge with at most 32 ports, each sound, and a sound database, in which its own LSP is current; behind
--- which bridges customers' addresses are, it has learned with their six bytes
+-- a configured bridge with at most 32 ports, each sound, and a sound database, in which its own LSPs are current;
+-- behind which bridges customers' addresses are, it has learned with their six bytes
 pub record IsSoundView (v : BridgeView) : Type 0 where
   pub config : HasConfig v
   pub few : length v.ports ≤ MOST_PORTS
@@ -92,7 +94,7 @@ pub record IsSoundView (v : BridgeView) : Type 0 where
   pub own : IsOwnLspCurrent v
   pub learned : AreLearned v.learned
 
--- so what it says of itself can be written, and fits one LSP
+-- so what it says of itself can be written, and fits its LSPs
 pub record CanSay (v : BridgeView) : Type 0 where
   pub local : IsLocal (local_of v)
   pub fields : HasFields (local_of v)

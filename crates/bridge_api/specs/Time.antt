@@ -1,4 +1,4 @@
--- What time makes of a bridge: of its neighbours, of the LSPs that it holds, and of its own LSP.
+-- What time makes of a bridge: of its neighbours, of the LSPs that it holds, and of its own LSPs.
 use Rattle.std.specs.Prelude.{◌≡◌, ◌≢◌, ◌⊎◌, ℕ, zero, suc, ◌+◌, ◌*◌, ◌≤◌, ◌<◌, true, false, ⊤, List, [], ◌∷◌, Option, Some, None}
 use Rattle.std.specs.List.{AllByRecursion}
 use Rattle.std.specs.FinMap.{get}
@@ -9,13 +9,13 @@ use Rattle.lsdb.specs.Version.{number_of}
 use Rattle.lsdb.specs.Entry.{Entry}
 use Rattle.lsdb.specs.Database.{version_in, version_at, srm_in}
 use Rattle.lsdb.specs.Time.{lifetime_in, is_live}
-use Rattle.flooding.specs.Own.{last_number, own_id, is_own_number, renewed}
+use Rattle.flooding.specs.Own.{last_number, own_numbers, own_number, is_own_number, renewed}
 use Rattle.adjacency.specs.declared.port.Adjacency.{Adjacency}
 use Rattle.adjacency.specs.Hearing.{End}
 use Rattle.adjacency.specs.Adjacency.{down, neighbour_of}
 use Rattle.bridge_api.specs.declared.config.BridgeConfig.{BridgeConfig}
 use Rattle.bridge_api.specs.View.{BridgeView, adjacency_at, neighbour_at, is_up_at, up_ports}
-use Rattle.bridge_api.specs.Own.{body_of, own_entry, body_in}
+use Rattle.bridge_api.specs.Own.{body_at, own_entry, body_in}
 use Rattle.bridge_api.specs.Config.{IsWhole, first_life, configured}
 use Rattle.bridge_api.specs.Parsing.{parsed, hello_in}
 use Rattle.bridge_api.specs.Step.{Input, second, frame, carrier, metric, attach, detach, customer, step}
@@ -121,78 +121,98 @@ LspsExpire = (v : BridgeView) (id : LspId) (seq sum k : ℕ) → is_own_number v
     → version_at v.database id ≡ Live seq sum → lifetime_in (get v.database id) ≡ k + 1
     → IsDead seq (up_ports (seconds (k + 1) v)) (get (seconds (k + 1) v).database id)
 
--- ---- the own LSP
+-- ---- own LSPs
 
--- the number of the own LSP
-abbrev pub own_sequence_number : BridgeView → ℕ
-own_sequence_number v = number_of (version_in (own_entry v))
+-- the sequence number of an own LSP
+abbrev pub own_sequence_number : BridgeView → ℕ → ℕ
+own_sequence_number v number = number_of (version_in (own_entry v number))
 
--- nothing was originated: the own LSP is as it was, with so much of its lifetime left
-pub record StandsStill (left : ℕ) (v w : BridgeView) : Type 0 where
-  pub own : IsLasting left (own_entry v) (own_entry w)
-  pub spent : w.spent ≡ v.spent
+-- an own LSP was originated: it stands one number further, says this for 1,200 seconds, and is to be sent at every Up
+-- port
+abbrev pub IsRenewed : ℕ → List ℕ → BridgeView → BridgeView → Type 0
+IsRenewed number body v w = own_entry w number
+    ≡ Some (renewed (up_ports w) (own_number w.id.system number) body (own_sequence_number v number + 1))
 
--- the own LSP was originated: it stands one number further, says for 1,200 seconds what the bridge then has to say, and
--- is to be sent at every Up port
-pub record IsRenewed (v w : BridgeView) : Type 0 where
-  pub own : own_entry w ≡ Some (renewed (up_ports w) (own_id w.id.system) (body_of w) (own_sequence_number v + 1))
-  pub spent : w.spent ≡ v.spent
-
--- a second after which the bridge has the same to say, and the own lifetime is above 300, originates nothing
+-- a second after which the bridge has the same to say in an own LSP leaves it as it is while its lifetime is above 301
 abbrev pub SecondsStandStill : Type 0
-SecondsStandStill = (v : BridgeView) (left : ℕ) → IsSoundView v → v.spent ≡ false
-    → body_of (step second v) ≡ body_of v → lifetime_in (own_entry v) ≡ left + 1 → 301 ≤ left
-    → StandsStill left v (step second v)
+SecondsStandStill = (v : BridgeView) (number left : ℕ) (body : List ℕ) → IsSoundView v → v.spent ≡ false
+    → number < own_numbers → body_at v number ≡ Some body → body_at (step second v) number ≡ Some body
+    → lifetime_in (own_entry v number) ≡ left + 1 → 301 ≤ left
+    → IsLasting left (own_entry v number) (own_entry (step second v) number)
 
--- every other originates, unless the sequence numbers are spent
+-- an own LSP that is to be originated in the next second: the bridge then has this to say in it, and by now something
+-- else, or 301 seconds of its lifetime are left, or less
+pub record IsDue (v : BridgeView) (number : ℕ) (body : List ℕ) : Type 0 where
+  pub below : number < own_numbers
+  pub says : body_at (step second v) number ≡ Some body
+  pub why : (lifetime_in (own_entry v number) ≤ 301) ⊎ (body_at v number ≢ Some body)
+
+-- those of numbers below this one that are to be originated can go a number further
+abbrev pub CanGoOn : BridgeView → ℕ → Type 0
+CanGoOn v end = (number : ℕ) (body : List ℕ) → number < end → IsDue v number body
+    → own_sequence_number v number < last_number
+
+-- one that is to be originated is so, if it can go a number further, and those of lower numbers can
 abbrev pub SecondsRenew : Type 0
-SecondsRenew = (v : BridgeView) → IsSoundView v → v.spent ≡ false → own_sequence_number v < last_number
-    → (lifetime_in (own_entry v) ≤ 301) ⊎ (body_of (step second v) ≢ body_of v) → IsRenewed v (step second v)
+SecondsRenew = (v : BridgeView) (number : ℕ) (body : List ℕ) → IsSoundView v → v.spent ≡ false
+    → IsDue v number body → CanGoOn v (number + 1) → IsRenewed number body v (step second v)
 
--- past the last number its own LSP is dead instead, and its sequence numbers are spent
-pub record IsSpent (v w : BridgeView) : Type 0 where
-  pub own : IsDead (own_sequence_number v) (up_ports w) (own_entry w)
+-- and if all can, the sequence numbers aren't spent
+abbrev pub SecondsStayUnspent : Type 0
+SecondsStayUnspent = (v : BridgeView) → IsSoundView v → v.spent ≡ false → CanGoOn v own_numbers
+    → (step second v).spent ≡ false
+
+-- else they are, and the own LSP of the lowest number that can't is dead instead
+pub record IsSpent (number : ℕ) (v w : BridgeView) : Type 0 where
   pub spent : w.spent ≡ true
+  pub first : CanGoOn v number → IsDead (own_sequence_number v number) (up_ports w) (own_entry w number)
 
 abbrev pub SecondsSpend : Type 0
-SecondsSpend = (v : BridgeView) → IsSoundView v → v.spent ≡ false → last_number ≤ own_sequence_number v
-    → (lifetime_in (own_entry v) ≤ 301) ⊎ (body_of (step second v) ≢ body_of v) → IsSpent v (step second v)
+SecondsSpend = (v : BridgeView) (number : ℕ) (body : List ℕ) → IsSoundView v → v.spent ≡ false
+    → IsDue v number body → last_number ≤ own_sequence_number v number → IsSpent number v (step second v)
 
 -- and from then on no second originates
 abbrev pub SpentStandsStill : Type 0
-SpentStandsStill = (v : BridgeView) → v.spent ≡ true
-    → AgedFrom (own_entry v) (own_entry (step second v)) × ((step second v).spent ≡ true)
+SpentStandsStill = (v : BridgeView) (number : ℕ) → v.spent ≡ true
+    → AgedFrom (own_entry v number) (own_entry (step second v) number) × ((step second v).spent ≡ true)
 
--- a bridge that has the same to say in each of so many seconds
-abbrev pub SaysTheSame : ℕ → BridgeView → Type 0
-SaysTheSame k v = (j : ℕ) → j ≤ k → body_of (seconds j v) ≡ body_of v
+-- a bridge that has the same to say in an own LSP in each of so many seconds
+abbrev pub SaysTheSame : ℕ → ℕ → BridgeView → Type 0
+SaysTheSame k number v = (j : ℕ) → j ≤ k → body_at (seconds j v) number ≡ body_at v number
 
--- so the own LSP stays as it is down to a lifetime of 301, and is originated anew in the second after
+-- so that one stays as it is down to a lifetime of 301
 abbrev pub OwnLspLasts : Type 0
-OwnLspLasts = (v : BridgeView) (k left : ℕ) → IsSoundView v → v.spent ≡ false → SaysTheSame k v
-    → lifetime_in (own_entry v) ≡ left + k → 301 ≤ left → StandsStill left v (seconds k v)
+OwnLspLasts = (v : BridgeView) (number k left : ℕ) (body : List ℕ) → IsSoundView v → v.spent ≡ false
+    → number < own_numbers → body_at v number ≡ Some body → SaysTheSame k number v
+    → lifetime_in (own_entry v number) ≡ left + k → 301 ≤ left
+    → IsLasting left (own_entry v number) (own_entry (seconds k v) number)
 
+-- and is originated anew in the second after, unless the sequence numbers are then spent
 abbrev pub OwnLspIsRenewed : Type 0
-OwnLspIsRenewed = (v : BridgeView) (k : ℕ) → IsSoundView v → v.spent ≡ false → SaysTheSame k v
-    → lifetime_in (own_entry v) ≡ 301 + k → own_sequence_number v < last_number → IsRenewed v (seconds (k + 1) v)
+OwnLspIsRenewed = (v : BridgeView) (number k : ℕ) (body new : List ℕ) → IsSoundView v → v.spent ≡ false
+    → number < own_numbers → body_at v number ≡ Some body → SaysTheSame k number v
+    → lifetime_in (own_entry v number) ≡ 301 + k → body_at (seconds (k + 1) v) number ≡ Some new
+    → (seconds (k + 1) v).spent ≡ false → IsRenewed number new v (seconds (k + 1) v)
 
 -- a bridge of which no port is Up
 abbrev pub IsAlone : BridgeView → Type 0
 IsAlone v = (p : ℕ) → is_up_at v p ≡ false
 
--- stays so by time alone, and has the same to say
+-- stays so by time alone, and has the same to say in each own LSP
 abbrev pub AloneStaysAlone : Type 0
-AloneStaysAlone = (v : BridgeView) (k : ℕ) → IsAlone v → IsAlone (seconds k v) × SaysTheSame k v
+AloneStaysAlone = (v : BridgeView) (k : ℕ) → IsAlone v
+    → IsAlone (seconds k v) × ((number : ℕ) → SaysTheSame k number v)
 
 -- so a bridge just configured, in its first life, and left to itself originates every 900 seconds: after 900 j and
--- fewer than 900 seconds more, its own LSP is at number j + 1, and what is left of its lifetime is 1,200 less those
--- seconds
-pub record IsAtNumber (seq left : ℕ) (v : BridgeView) : Type 0 where
-  pub number : own_sequence_number v ≡ seq
-  pub lifetime : lifetime_in (own_entry v) ≡ left
+-- fewer than 900 seconds more, each own LSP in which it has something to say is at number j + 1, and what is left of its
+-- lifetime is 1,200 less those seconds
+pub record IsAtNumber (number seq left : ℕ) (v : BridgeView) : Type 0 where
+  pub at : own_sequence_number v number ≡ seq
+  pub lifetime : lifetime_in (own_entry v number) ≡ left
   pub spent : v.spent ≡ false
 
 abbrev pub EveryNineHundred : Type 0
-EveryNineHundred = (c : BridgeConfig) (j k left : ℕ) → IsWhole c → c.last ≡ first_life → j < last_number
-    → left + k ≡ 1200 → 301 ≤ left
-    → IsAtNumber (j + 1) left (seconds (k + 900 * j) (configured c))
+EveryNineHundred = (c : BridgeConfig) (number j k left : ℕ) (body : List ℕ) → IsWhole c → c.last ≡ first_life
+    → number < own_numbers → body_at (configured c) number ≡ Some body → j < last_number → left + k ≡ 1200
+    → 301 ≤ left
+    → IsAtNumber number (j + 1) left (seconds (k + 900 * j) (configured c))
