@@ -23,12 +23,9 @@ use Rattle.flooding.specs.Own.{own_id, own_numbers, own_number}
 use Rattle.flooding.proofs.OwnNumbers.{some_number}
 use Rattle.snp_sync.proofs.Ranges.{of_entries}
 use Rattle.spb_content.specs.declared.content.Content.{Content}
-use Rattle.spb_content.specs.Local.{content_bytes}
 use Rattle.spb_content.specs.Graph.{Contents, systems_in}
 use Rattle.spb_content.proofs.Members.{Has, has_from_contains, contains_from_has, all_has}
-use Rattle.flooding.specs.Own.{tlvs_of_body}
 use Rattle.bridge_api.specs.View.{BridgeView}
-use Rattle.bridge_api.specs.Own.{local_of, body_of}
 use Rattle.bridge_api.specs.Tables.{is_numbered, live_body, live_lsp, live_lsps, body_among, said_among, read_at, contents_among, contents_of}
 use Rattle.bridge_api.specs.Graph.{content_held, ReadsWhatIsHeld, ReadsEachOnce}
 
@@ -105,7 +102,7 @@ was_read : (lsps : List (LspId × List ℕ)) (held : LspId × Entry) (x : System
 was_read lsps held x c is = by (is_numbered held.0) held.1.version refl refl is
   where
     first : (d : Bool) → is_numbered held.0 ≡ true → is_live held.1.version ≡ true → (held.0.number == 0) ≡ d
-        → (if d then Some {SystemId × Content} (held.0.system, said_among lsps held.0.system) else None) ≡ Some (x, c) → WasRead lsps held x c
+        → ◌≡◌ {A = Option (SystemId × Content)} (if d then Some (held.0.system, said_among lsps held.0.system) else None) (Some (x, c)) → WasRead lsps held x c
     first true numbered live is e =
         let pair : ◌≡◌ {A = SystemId × Content} (held.0.system, said_among lsps held.0.system) (x, c) = cc in
         let system : held.0.system ≡ x = ap (λ (q : SystemId × Content). q.0) pair in
@@ -256,9 +253,3 @@ found_live id (e ∷ es) numbered sorted =
 pub among_is_held : (db : Lsps) (id : LspId) → is_numbered id ≡ true → body_among (live_lsps db) id ≡ live_in (get db id)
 among_is_held db id numbered =
     found_live id (entries db) numbered (true_from_T _ (entries_sorted db)) ∙ ap live_in (sym (get-entries db id))
-
--- ---- what a bridge says is the TLVs of its body
-
-pub tlvs_said : (v : BridgeView) → tlvs_of_body (body_of v) ≡ content_bytes (local_of v)
-unfolding body_of
-tlvs_said v = refl
