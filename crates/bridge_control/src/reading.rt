@@ -78,33 +78,26 @@ fn held_near<'a>(db: &'a Database, near: usize, id: &LspId) -> Option<&'a Held>
     }
 }
 
-/// The TLVs of an LSP that is held, if it is live, and else none.
-fn live_tlvs(held: Option<&Held>) -> &[u8]
-    ensures { result.now
-        ≡ own.tlvs_of_body (unwrap_or (reading.body_if_live (option_map entry_of (option_copied held))) []) }
+/// Puts the TLVs of an LSP that is held behind others, if it is live.
+fn put_live(tlvs: &mut Vec<u8>, held: Option<&Held>) -> Result<(), NoMemory>
+    ensures { OnOk result (tlvs.new.items ≡ tlvs.old.items
+        ++ own.tlvs_of_body (unwrap_or (reading.body_if_live (option_map entry_of (option_copied held.entry))) [])) }
 {
-    match held {
-        Some(held) => match held.version {
-            Version::Live { .. } => tlvs_of(held.body.as_slice()),
-            Version::Absent | Version::Dead { .. } => [].as_slice(),
-        },
-        None => [].as_slice(),
+    if let Some(held) = held
+        && matches!(held.version, Version::Live { .. })
+    {
+        tlvs.extend_from_slice(tlvs_of(held.body.as_slice()))?;
     }
+    Ok(())
 }
 
 /// Puts the TLVs of the LSP under an id behind others, if it is read. It is looked for at the place `near` before any
 /// other.
-fn put_tlvs(
-    tlvs: &mut Vec<u8>,
-    db: &Database,
-    near: usize,
-    id: &LspId,
-) -> Result<(), NoMemory>
+fn put_tlvs(tlvs: &mut Vec<u8>, db: &Database, near: usize, id: &LspId) -> Result<(), NoMemory>
     requires { tables.is_numbered id.now ≡ true }
     ensures { OnOk result (tlvs.new.items ≡ tlvs.old.items ++ tables.tlvs_under (tables.live_lsps db.now) id.now) }
 {
-    tlvs.extend_from_slice(live_tlvs(held_near(db, near, id)))?;
-    Ok(())
+    put_live(tlvs, held_near(db, near, id))
 }
 
 /// What the LSPs of a system that are read say, put together. That of number 0 stands at this place, and the others
