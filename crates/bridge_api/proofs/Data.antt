@@ -1,5 +1,5 @@
 -- The database of a bridge stays sound in each part of a step.
-use Rattle.std.proofs.Common.{◌≡◌, ◌≢◌, ◌⊎◌, inl, inr, ◌≤◌, ◌+◌, ◌-◌, ℕ, zero, suc, Bool, true, false, List, [], ◌∷◌, length, map, refl, sym, ap, ◌∙◌, subst, Option, Some, None, arith, ⊎_elim}
+use Rattle.std.proofs.Common.{◌≡◌, ◌≢◌, ◌⊎◌, inl, inr, ◌≤◌, ◌<◌, ◌+◌, ◌-◌, ℕ, zero, suc, Bool, true, false, List, [], ◌∷◌, length, map, refl, sym, ap, ◌∙◌, subst, Option, Some, None, arith, ⊎_elim}
 use Rattle.std.specs.Prelude.{nat_le, ◌&&◌, not, slice_get, slice_set, if◌then◌else◌}
 use Rattle.std.specs.Option.{option_map}
 use Rattle.std.specs.List.{AllByRecursion}
@@ -22,7 +22,7 @@ use Rattle.lsdb.specs.Entry.{Entry, made, srm_set_at, flags_cleared_at, aged, ag
 use Rattle.lsdb.specs.Database.{Lsps, version_in, version_at, each}
 use Rattle.lsdb.specs.Certificate.{Certificate}
 use Rattle.lsdb.proofs.LookupLemmas.{get-each}
-use Rattle.flooding.specs.Own.{own_id, body_of_number, body_in}
+use Rattle.flooding.specs.Own.{own_numbers, own_number, own_id, body_in}
 use Rattle.flooding.specs.Room.{most_others, others}
 use Rattle.flooding.specs.Hearing.{Holding, HasFewOthers, claim_of, lsp_rule, hear_lsp_of}
 use Rattle.flooding.specs.Settling.{Test, settled_by, says, is_new}
@@ -46,37 +46,54 @@ use Rattle.snp_sync.proofs.Served.{entries_are_certified, csnp_is_certified}
 use Rattle.spb_content.proofs.Members.{Has}
 use Rattle.bridge_api.specs.declared.port.BridgePort.{BridgePort}
 use Rattle.bridge_api.specs.View.{BridgeView, port_in, port_at, with_port_at, is_port_up, is_up_in, up_from, up_ports}
-use Rattle.bridge_api.specs.Own.{body_of, own_of, own_entry, holding_of, originated_if_changed}
+use Rattle.bridge_api.specs.Own.{own_of, body_at, own_entry, holding_of, IsOwnLspCurrent, originated_if_changed}
 use Rattle.bridge_api.specs.Config.{IsOwnMac}
 use Rattle.bridge_api.specs.Hearing.{with_csnp_due, left_up, all_srm_set_at, heard_lsp, heard_csnp, heard_psnp}
 use Rattle.bridge_api.specs.Ticking.{later, leaves, leaving_from, flags_cleared_at_all, counts_lowered, expired, refreshed, after_sending_at, after_sending_from, after_sending}
 use Rattle.bridge_api.specs.Laws.{HasDatabase}
-use Rattle.bridge_api.proofs.OwnPorts.{HasApart, empty_apart, own_apart, mapped_apart}
-use Rattle.bridge_api.proofs.OneNumber.{one_body}
+use Rattle.bridge_api.proofs.OwnPorts.{HasText, dead_text, own_text, mapped_text, texts_of}
 use Rattle.bridge_api.proofs.Places.{got_at}
+use Rattle.bridge_api.proofs.Present.{IsPresent, mapped_present, lsp_present, entries_present, csnp_present, settling_present}
 use Rattle.bridge_api.proofs.UpPorts.{up_ports_from}
 use Rattle.bridge_api.proofs.Changes.{settling, found, one_port}
 
 -- ---- a sound database
 
--- of a system with this id, with these Up ports; its own LSP lists each neighbour at a port of its own
+-- of a system with this id, with these Up ports; of its own LSPs number 0 lists each neighbour at a port of its own, and
+-- the others list none
 pub record IsSoundData (up : PortSet) (system : SystemId) (db : Lsps) : Type 0 where
   pub sendable : AreSendable db
   pub sized : AreSized db
   pub flags : HaveFlagsAt up db
   pub own : is_absent (version_at db (own_id system)) ≡ false
+  pub present : (number : ℕ) → number < own_numbers → IsPresent (get db (own_number system number))
   pub room : others system db ≤ most_others
-  pub apart : HasApart (body_in (get db (own_id system)))
+  pub text : (number : ℕ) → number < own_numbers → HasText number (body_in (get db (own_number system number)))
 
 -- the database of a bridge
 abbrev pub Holds : BridgeView → Type 0
 Holds v = IsSoundData (up_ports v) v.id.system v.database
 
-pub lsps_of : (v : BridgeView) → HasDatabase v → HasApart (body_in (own_entry v)) → Holds v
-lsps_of v held apart = record { sendable = held.sendable; sized = held.sized; flags = held.flags; own = held.own; room = held.room; apart = apart }
+pub lsps_of : (v : BridgeView) → HasDatabase v → IsOwnLspCurrent v → Holds v
+lsps_of v held own = record {
+  sendable = held.sendable;
+  sized = held.sized;
+  flags = held.flags;
+  own = held.own;
+  present = λ number below e is. held.present number e below is;
+  room = held.room;
+  text = texts_of v own;
+}
 
 pub has_lsps : (v : BridgeView) → Holds v → HasDatabase v
-has_lsps v held = record { sendable = held.sendable; sized = held.sized; flags = held.flags; own = held.own; room = held.room }
+has_lsps v held = record {
+  sendable = held.sendable;
+  sized = held.sized;
+  flags = held.flags;
+  own = held.own;
+  present = λ number e below is. held.present number below e is;
+  room = held.room;
+}
 
 -- the own id, of six octets
 pub own_named : (system : SystemId) → IsOwnMac system.mac → IsLspId (own_id system)
@@ -97,16 +114,13 @@ risen (Dead n) (Dead m) rises there = refl
 pub few_of : (system : SystemId) (h : Holding) → h.own.system ≡ system → HasFewOthers h → others system h.db ≤ most_others
 few_of system h same few = subst (λ (s : SystemId). others s h.db ≤ most_others) same few
 
--- ---- the own LSP
+-- ---- own LSPs
 
 -- a bridge that can write what it says, whose id is six octets, and whose neighbours are at different ports
 pub record CanOriginate (v : BridgeView) : Type 0 where
   pub body : HasBodies (own_of v)
   pub named : IsLspId (own_id v.id.system)
-  pub apart : HasApart (body_of v)
-
-pub said_apart : (v : BridgeView) → CanOriginate v → (body : List ℕ) → body_of_number (own_of v) 0 ≡ Some body → HasApart body
-said_apart v can body is = subst HasApart (one_body (body_of v) 0 body is) can.apart
+  pub text : (number : ℕ) (body : List ℕ) → body_at v number ≡ Some body → HasText number body
 
 pub settling_keeps_data : (stands : Test) (v : BridgeView) → CanOriginate v → Holds v → Holds (settling stands v)
 settling_keeps_data stands v can held =
@@ -119,8 +133,9 @@ settling_keeps_data stands v can held =
       sized = settling_keeps_sized stands up h can.named held.sized;
       flags = settling_keeps_flags stands up h held.flags;
       own = risen _ _ (steps.rises id) held.own;
+      present = λ number below. settling_present stands up h (own_number v.id.system number) (held.present number below);
       room = few_of v.id.system (settled_by stands up h) (settling_leaves_own stands up h).0 (settling_keeps_few stands up h held.room);
-      apart = own_apart h.own (own_id v.id.system) (own_entry v) (get (settled_by stands up h).db id) (said_apart v can) (settling_leaves_own_body stands up h id refl) held.apart;
+      text = λ number below. own_text h.own (own_number v.id.system number) (own_entry v number) (get (settled_by stands up h).db (own_number v.id.system number)) (can.text number) (settling_leaves_own_body stands up h (own_number v.id.system number) refl) (held.text number below);
     }
 
 pub originated_if_changed_keeps : (v : BridgeView) → CanOriginate v → Holds v → Holds (originated_if_changed v)
@@ -142,8 +157,9 @@ lsp_keeps l p v up whole id fields can held =
       sized = lsp_keeps_sized (up_ports v) p l h id fields held.sized;
       flags = lsp_keeps_flags (up_ports v) p l h up held.flags;
       own = risen _ _ (steps.rises (own_id v.id.system)) held.own;
+      present = λ number below. lsp_present (up_ports v) p l h (own_number v.id.system number) refl (held.present number below);
       room = few_of v.id.system (hear_lsp_of (up_ports v) p l h) (own_stands (lsp_rule (up_ports v) p l) (up_ports v) (claim_of l) h).0 (hearing_keeps_few (lsp_rule (up_ports v) p l) (up_ports v) (claim_of l) h held.room);
-      apart = own_apart h.own (own_id v.id.system) (own_entry v) (get (hear_lsp_of (up_ports v) p l h).db (own_id v.id.system)) (said_apart v can) (lsp_leaves_own_body (up_ports v) p l h (own_id v.id.system) refl) held.apart;
+      text = λ number below. own_text h.own (own_number v.id.system number) (own_entry v number) (get (hear_lsp_of (up_ports v) p l h).db (own_number v.id.system number)) (can.text number) (lsp_leaves_own_body (up_ports v) p l h (own_number v.id.system number) refl) (held.text number below);
     }
 
 all_numbered : (entries : List SnpEntry) → AllByRecursion (λ c. IsNumbered c.version) (claims_in entries)
@@ -160,8 +176,9 @@ csnp_keeps c entries p v up listed can held =
       sized = csnp_keeps_sized (up_ports v) p c.start c.end entries h listed held.sized;
       flags = csnp_keeps_flags (up_ports v) p c.start c.end (claims_in entries) h up held.flags;
       own = risen _ _ (steps.rises (own_id v.id.system)) held.own;
+      present = λ number below. csnp_present (up_ports v) p c.start c.end (claims_in entries) h (own_number v.id.system number) refl (held.present number below);
       room = few_of v.id.system (hear_csnp_of (up_ports v) p c.start c.end (claims_in entries) h) (entries_leave_own (up_ports v) p (claims_in entries) h).0 (csnp_keeps_few (up_ports v) p c.start c.end (claims_in entries) h held.room);
-      apart = own_apart h.own (own_id v.id.system) (own_entry v) (get (hear_csnp_of (up_ports v) p c.start c.end (claims_in entries) h).db (own_id v.id.system)) (said_apart v can) (csnp_leaves_own_body (up_ports v) p c.start c.end (claims_in entries) h (own_id v.id.system) refl) held.apart;
+      text = λ number below. own_text h.own (own_number v.id.system number) (own_entry v number) (get (hear_csnp_of (up_ports v) p c.start c.end (claims_in entries) h).db (own_number v.id.system number)) (can.text number) (csnp_leaves_own_body (up_ports v) p c.start c.end (claims_in entries) h (own_number v.id.system number) refl) (held.text number below);
     }
 
 pub psnp_keeps : (entries : List SnpEntry) (p : ℕ) (v : BridgeView) → has (up_ports v) p ≡ true → AllByRecursion IsSizedEntry entries → CanOriginate v → Holds v → Holds (heard_psnp entries p v)
@@ -174,8 +191,9 @@ psnp_keeps entries p v up listed can held =
       sized = entries_keep_sized (up_ports v) p entries h listed held.sized;
       flags = entries_keep_flags (up_ports v) p (claims_in entries) h up held.flags;
       own = risen _ _ (steps.rises (own_id v.id.system)) held.own;
+      present = λ number below. entries_present (up_ports v) p (claims_in entries) h (own_number v.id.system number) refl (held.present number below);
       room = few_of v.id.system (hear_entries_of (up_ports v) p (claims_in entries) h) (entries_leave_own (up_ports v) p (claims_in entries) h).0 (entries_keep_few (up_ports v) p (claims_in entries) h held.room);
-      apart = own_apart h.own (own_id v.id.system) (own_entry v) (get (hear_entries_of (up_ports v) p (claims_in entries) h).db (own_id v.id.system)) (said_apart v can) (entries_leave_own_body (up_ports v) p (claims_in entries) h (own_id v.id.system) refl) held.apart;
+      text = λ number below. own_text h.own (own_number v.id.system number) (own_entry v number) (get (hear_entries_of (up_ports v) p (claims_in entries) h).db (own_number v.id.system number)) (can.text number) (entries_leave_own_body (up_ports v) p (claims_in entries) h (own_number v.id.system number) refl) (held.text number below);
     }
 
 -- ---- every entry changed
@@ -195,7 +213,7 @@ pub record KeepsEntry (up next : PortSet) (f : LspId → Entry → Entry) : Type
   pub sized : (x : LspId) (e : Entry) → IsSized x e → IsSized x (f x e)
   pub flags : (x : LspId) (e : Entry) → HasFlagsAt up e → HasFlagsAt next (f x e)
   pub there : (x : LspId) (e : Entry) → is_absent e.version ≡ false → is_absent (f x e).version ≡ false
-  pub apart : (x : LspId) (e : Entry) → HasApart e.body → HasApart (f x e).body
+  pub text : (number : ℕ) (x : LspId) (e : Entry) → HasText number e.body → HasText number (f x e).body
 
 there_at : (f : Entry → Entry) (o : Option Entry) → ((e : Entry) → is_absent e.version ≡ false → is_absent (f e).version ≡ false) → is_absent (version_in o) ≡ false → is_absent (version_in (option_map f o)) ≡ false
 there_at f None keeps there = there
@@ -209,10 +227,13 @@ each_keeps up next system f db keeps held = record {
   own =
       ap (λ o. is_absent (version_in o)) (get-each f db (own_id system))
       ∙ there_at (f (own_id system)) (get db (own_id system)) (keeps.there (own_id system)) held.own;
+  present = λ number below.
+      let id : LspId = own_number system number in
+      subst IsPresent (sym (get-each f db id)) (mapped_present (f id) (get db id) (keeps.there id) (held.present number below));
   room = subst (λ n. n ≤ most_others) (sym (changing_keeps_others system f db)) held.room;
-  apart =
-      subst (λ (o : Option Entry). HasApart (body_in o)) (sym (get-each f db (own_id system)))
-      (mapped_apart (f (own_id system)) (get db (own_id system)) (keeps.apart (own_id system)) held.apart);
+  text = λ number below.
+      let id : LspId = own_number system number in
+      subst (λ (o : Option Entry). HasText number (body_in o)) (sym (get-each f db id)) (mapped_text number (f id) (get db id) (keeps.text number id) (held.text number below));
 }
 
 -- ---- flags at other Up ports
@@ -225,7 +246,7 @@ wider : (up next : PortSet) (e : Entry) → StayUp up next → HasFlagsAt up e �
 wider up next e stay flags = record { srm = λ q on. stay q (flags.srm q on); ssn = λ q on. stay q (flags.ssn q on); absent = flags.absent }
 
 pub wider_keeps : (up next : PortSet) (system : SystemId) (db : Lsps) → StayUp up next → IsSoundData up system db → IsSoundData next system db
-wider_keeps up next system db stay held = record { sendable = held.sendable; sized = held.sized; flags = λ x e is. wider up next e stay (held.flags x e is); own = held.own; room = held.room; apart = held.apart }
+wider_keeps up next system db stay held = record { sendable = held.sendable; sized = held.sized; flags = λ x e is. wider up next e stay (held.flags x e is); own = held.own; present = held.present; room = held.room; text = held.text }
 
 module _ (up next : PortSet) (p : ℕ) (low : 1 ≤ p) (high : p ≤ 32) where
   module _ (stay : (q : ℕ) → q ≢ p → has up q ≡ true → has next q ≡ true) where
@@ -251,7 +272,7 @@ module _ (up next : PortSet) (p : ℕ) (low : 1 ≤ p) (high : p ≤ 32) where
       sized = λ x e s. flags_keep_sized (without_port e.srm p) (without_port e.ssn p) x e s;
       flags = λ x e flags. flags_cleared_flags e flags;
       there = λ x e there. there;
-      apart = λ x e apart. apart;
+      text = λ number x e was. was;
     }
 
   module _ (stay : StayUp up next) (up_here : has next p ≡ true) where
@@ -277,9 +298,9 @@ module _ (up next : PortSet) (p : ℕ) (low : 1 ≤ p) (high : p ≤ 32) where
     srm_set_there e true there = there
     srm_set_there e false there = there
 
-    srm_set_apart : (e : Entry) (b : Bool) → HasApart e.body → HasApart (if b then e else record e { srm = with_port e.srm p }).body
-    srm_set_apart e true apart = apart
-    srm_set_apart e false apart = apart
+    srm_set_text : (number : ℕ) (e : Entry) (b : Bool) → HasText number e.body → HasText number (if b then e else record e { srm = with_port e.srm p }).body
+    srm_set_text number e true was = was
+    srm_set_text number e false was = was
 
     srm_set_keeps : KeepsEntry up next (λ id e. srm_set_at p e)
     srm_set_keeps = record {
@@ -287,7 +308,7 @@ module _ (up next : PortSet) (p : ℕ) (low : 1 ≤ p) (high : p ≤ 32) where
       sized = λ x e s. srm_set_sized x e (is_absent e.version) s;
       flags = λ x e flags. srm_set_flags e (is_absent e.version) refl flags;
       there = λ x e there. srm_set_there e (is_absent e.version) there;
-      apart = λ x e apart. srm_set_apart e (is_absent e.version) apart;
+      text = λ number x e was. srm_set_text number e (is_absent e.version) was;
     }
 
 -- ---- the Up ports, where one port changes
@@ -371,14 +392,14 @@ aged_there up e (Live seq sum) is there = by_test (nat_le e.lifetime 1)
     by_test false = there
 aged_there up e (Dead seq) is there = there
 
-aged_apart : (up : PortSet) (e : Entry) (a : Version) → HasApart e.body → HasApart (aged_at up e a).body
-aged_apart up e Absent apart = apart
-aged_apart up e (Live seq sum) apart = by_test (nat_le e.lifetime 1)
+aged_text : (number : ℕ) (up : PortSet) (e : Entry) (a : Version) → HasText number e.body → HasText number (aged_at up e a).body
+aged_text number up e Absent was = was
+aged_text number up e (Live seq sum) was = by_test (nat_le e.lifetime 1)
   where
-    by_test : (b : Bool) → HasApart (if b then made (Dead seq) 0 [] up e.ssn else record e { lifetime = e.lifetime - 1 }).body
-    by_test true = empty_apart
-    by_test false = apart
-aged_apart up e (Dead seq) apart = apart
+    by_test : (b : Bool) → HasText number (if b then made (Dead seq) 0 [] up e.ssn else record e { lifetime = e.lifetime - 1 }).body
+    by_test true = dead_text number
+    by_test false = was
+aged_text number up e (Dead seq) was = was
 
 pub expired_keeps : (v : BridgeView) → Holds v → Holds (expired v)
 expired_keeps v held =
@@ -387,7 +408,7 @@ expired_keeps v held =
       sized = ageing_keeps_sized (up_ports v);
       flags = λ x e flags. aged_flags (up_ports v) e e.version refl flags;
       there = λ x e there. aged_there (up_ports v) e e.version refl there;
-      apart = λ x e apart. aged_apart (up_ports v) e e.version apart;
+      text = λ number x e was. aged_text number (up_ports v) e e.version was;
     } in
     each_keeps (up_ports v) (up_ports v) v.id.system (λ id e. aged (up_ports v) e) v.database keeps held
 
@@ -419,9 +440,9 @@ all_flags_cleared_there : (ps : List ℕ) (e : Entry) → is_absent e.version �
 all_flags_cleared_there [] e there = there
 all_flags_cleared_there (p ∷ ps) e there = all_flags_cleared_there ps (flags_cleared_at p e) there
 
-all_flags_cleared_apart : (ps : List ℕ) (e : Entry) → HasApart e.body → HasApart (flags_cleared_at_all ps e).body
-all_flags_cleared_apart [] e apart = apart
-all_flags_cleared_apart (p ∷ ps) e apart = all_flags_cleared_apart ps (flags_cleared_at p e) apart
+all_flags_cleared_text : (number : ℕ) (ps : List ℕ) (e : Entry) → HasText number e.body → HasText number (flags_cleared_at_all ps e).body
+all_flags_cleared_text number [] e was = was
+all_flags_cleared_text number (p ∷ ps) e was = all_flags_cleared_text number ps (flags_cleared_at p e) was
 
 -- a port where the neighbour is lost is among those
 later_has : (b : Bool) (q p : ℕ) (ports : List BridgePort) → Has q (leaving_from (p + 1) ports) → Has q (if b then p ∷ leaving_from (p + 1) ports else leaving_from (p + 1) ports)
@@ -476,7 +497,7 @@ counts_lowered_keeps v few held =
       flags = λ x e flags. all_flags_cleared_flags ps (up_ports v) (up_ports w) e (leaving_range 1 v.ports (omega arith) (omega (arith, few)))
           (λ q up. stay_or_leave v.ports q (port_in v.ports q) few refl (sym (up_at v.ports q few) ∙ up)) flags;
       there = λ x e there. all_flags_cleared_there ps e there;
-      apart = λ x e apart. all_flags_cleared_apart ps e apart;
+      text = λ number x e was. all_flags_cleared_text number ps e was;
     } in
     each_keeps (up_ports v) (up_ports w) v.id.system (λ id e. flags_cleared_at_all ps e) v.database keeps held
 
@@ -507,9 +528,9 @@ ssn_there : (p : ℕ) (e : Entry) (b : Bool) → is_absent e.version ≡ false �
 ssn_there p e true there = there
 ssn_there p e false there = there
 
-ssn_apart : (p : ℕ) (e : Entry) (b : Bool) → HasApart e.body → HasApart (if b then record e { ssn = without_port e.ssn p } else e).body
-ssn_apart p e true apart = apart
-ssn_apart p e false apart = apart
+ssn_text : (number p : ℕ) (e : Entry) (b : Bool) → HasText number e.body → HasText number (if b then record e { ssn = without_port e.ssn p } else e).body
+ssn_text number p e true was = was
+ssn_text number p e false was = was
 
 pub all_ssn_cleared_keeps : (up : PortSet) (system : SystemId) (p : ℕ) (db : Lsps) → IsSoundData up system db → IsSoundData up system (all_ssn_cleared p db)
 all_ssn_cleared_keeps up system p db held =
@@ -518,7 +539,7 @@ all_ssn_cleared_keeps up system p db held =
       sized = λ x e s. ssn_sized x p e (has_ssn_at p e) s;
       flags = λ x e flags. ssn_flags up p e (has_ssn_at p e) refl flags;
       there = λ x e there. ssn_there p e (has_ssn_at p e) there;
-      apart = λ x e apart. ssn_apart p e (has_ssn_at p e) apart;
+      text = λ number x e was. ssn_text number p e (has_ssn_at p e) was;
     } in
     each_keeps up up system (λ id e. ssn_cleared_entry p e) db keeps held
 

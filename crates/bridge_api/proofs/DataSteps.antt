@@ -26,7 +26,7 @@ use Rattle.spb_types.specs.declared.service.Attachment.{Attachment}
 use Rattle.bridge_api.specs.declared.port.BridgePort.{BridgePort}
 use Rattle.bridge_api.specs.declared.config.BridgeConfig.{BridgeConfig}
 use Rattle.bridge_api.specs.View.{BridgeView, port_in, port_at, with_port_at, is_port_up, is_up_in, up_from, up_ports}
-use Rattle.bridge_api.specs.Own.{body_of, own_entry, holding_of, originated_if_changed}
+use Rattle.bridge_api.specs.Own.{holding_of, originated_if_changed}
 use Rattle.bridge_api.specs.Config.{IsWhole, IsMetric, port_without_carrier, bare, configured}
 use Rattle.bridge_api.specs.Hearing.{with_csnp_due, with_adjacency, left_up, all_srm_set_at, changed_at, heard_lsp, heard_csnp, heard_psnp, heard_hello, after_receive, with_carrier_at, with_carrier, with_port_metric, with_metric}
 use Rattle.bridge_api.specs.Ticking.{later, counts_lowered, expired, readied, after_tick}
@@ -40,7 +40,7 @@ use Rattle.bridge_api.proofs.Changes.{KeepsRest, found, LspStep, CsnpStep, PsnpS
 use Rattle.bridge_api.proofs.Attached.{config_after}
 use Rattle.bridge_api.proofs.SoundPorts.{AreSoundPorts, all_set, heard_six, carrier_six, with_metric_sound, sound_at, source_six, all_later, all_without_carrier, config_kept, bare_config}
 use Rattle.bridge_api.proofs.Saying.{has_body, can_say}
-use Rattle.bridge_api.proofs.OwnPorts.{HasApart, body_apart}
+use Rattle.bridge_api.proofs.OwnPorts.{bodies_text}
 use Rattle.bridge_api.proofs.Data.{Holds, few_of, lsps_of, CanOriginate, own_named, up_at, originated_if_changed_keeps, refreshed_keeps, lsp_keeps, csnp_keeps, psnp_keeps, moved_keeps, left_keeps, srm_set_at_keeps, counts_lowered_keeps, expired_keeps, after_sending_keeps}
 use Rattle.bridge_api.proofs.Reading.{lsp_heard_at, csnp_heard_at, psnp_heard_at}
 
@@ -49,14 +49,14 @@ pub can_originate : (v : BridgeView) → HasConfig v → length v.ports ≤ 32 �
 can_originate v config few ports = record {
   body = has_body v config few ports;
   named = own_named v.id.system config.system;
-  apart = body_apart v few (can_say v config few ports);
+  text = bodies_text v few (can_say v config few ports);
 }
 
 -- ---- something came to pass at a port of a sound bridge
 
 module _ (v : BridgeView) (was : IsSoundView v) where
   before_holds : Holds v
-  before_holds = lsps_of v was.database was.own.text
+  before_holds = lsps_of v was.database was.own
 
   -- a bridge that differs in what a step changes
   can_after : (w : BridgeView) → KeepsRest v w → length w.ports ≤ 32 → AreSoundPorts w.ports → CanOriginate w
@@ -200,4 +200,4 @@ step_holds (carrier q on) v is was = carrier_holds v was q on
 step_holds (metric q m) v is was = metric_holds v was q m is
 step_holds (attach a) v is was = attached_holds v was v.learned (v.attached ++ a ∷ []) (config_after (attach a) v is was.config)
 step_holds (detach p) v is was = attached_holds v was (with_port_forgotten p v).learned (without_customer_port p v.attached) (config_after (detach p) v is was.config)
-step_holds (customer p bytes) v is was = lsps_of v was.database was.own.text
+step_holds (customer p bytes) v is was = lsps_of v was.database was.own

@@ -26,7 +26,7 @@ use Rattle.spb_content.specs.declared.content.Content.{Content}
 use Rattle.spb_content.specs.Graph.{Contents, systems_in}
 use Rattle.spb_content.proofs.Members.{Has, has_from_contains, contains_from_has, all_has}
 use Rattle.bridge_api.specs.View.{BridgeView}
-use Rattle.bridge_api.specs.Tables.{is_numbered, live_body, live_lsp, live_lsps, body_among, said_among, read_at, contents_among, contents_of}
+use Rattle.bridge_api.specs.Tables.{is_numbered, live_body, body_if_live, live_lsp, live_lsps, body_among, said_among, read_at, contents_among, contents_of}
 use Rattle.bridge_api.specs.Graph.{content_held, ReadsWhatIsHeld, ReadsEachOnce}
 
 -- ---- what is held under an id stands among the entries, and nothing else
@@ -207,10 +207,6 @@ reads_each_once v =
 
 -- ---- the body that is found among the live LSPs is that of what is held, if it is live
 
-abbrev pub live_in : Option Entry → Option (List ℕ)
-live_in None = None
-live_in (Some e) = live_body e.version e.body
-
 -- an id that is below all of a list isn't found there
 less_no_eq : (o : Ordering) → is_lt o ≡ true → is_eq o ≡ false
 less_no_eq Less e = refl
@@ -236,20 +232,20 @@ none_below id (e ∷ es) below =
     let parts = and_parts (is_lt (id_cmp id e.0)) (below_all id_cmp id es) below in
     one_live id e (filter_map live_lsp es) (live_body e.1.version e.1.body) (is_numbered e.0) (less_no_eq (id_cmp id e.0) parts.0) ∙ none_below id es parts.1
 
-found_live : (id : LspId) (es : List (LspId × Entry)) → is_numbered id ≡ true → is_sorted id_cmp es ≡ true → body_among (filter_map live_lsp es) id ≡ live_in (find id_cmp id es)
+found_live : (id : LspId) (es : List (LspId × Entry)) → is_numbered id ≡ true → is_sorted id_cmp es ≡ true → body_among (filter_map live_lsp es) id ≡ body_if_live (find id_cmp id es)
 found_live id [] numbered sorted = refl
 found_live id (e ∷ es) numbered sorted =
     let parts = and_parts (below_all id_cmp e.0 es) (is_sorted id_cmp es) sorted in
     by (is_eq (id_cmp id e.0)) refl parts.0 (found_live id es numbered parts.1)
   where
-    by : (b : Bool) → is_eq (id_cmp id e.0) ≡ b → below_all id_cmp e.0 es ≡ true → body_among (filter_map live_lsp es) id ≡ live_in (find id_cmp id es)
-        → body_among (filter_map live_lsp (e ∷ es)) id ≡ live_in (cond b (Some e.1) (find id_cmp id es))
+    by : (b : Bool) → is_eq (id_cmp id e.0) ≡ b → below_all id_cmp e.0 es ≡ true → body_among (filter_map live_lsp es) id ≡ body_if_live (find id_cmp id es)
+        → body_among (filter_map live_lsp (e ∷ es)) id ≡ body_if_live (cond b (Some e.1) (find id_cmp id es))
     by true same below rest =
         let key : id ≡ e.0 = tied_is id e.0 same in
         here_live id e (filter_map live_lsp es) (live_body e.1.version e.1.body) (is_numbered e.0) (ap is_numbered (sym key) ∙ numbered) same
         (none_below id es (ap (λ (x : LspId). below_all id_cmp x es) key ∙ below))
     by false apart below rest = one_live id e (filter_map live_lsp es) (live_body e.1.version e.1.body) (is_numbered e.0) apart ∙ rest
 
-pub among_is_held : (db : Lsps) (id : LspId) → is_numbered id ≡ true → body_among (live_lsps db) id ≡ live_in (get db id)
+pub among_is_held : (db : Lsps) (id : LspId) → is_numbered id ≡ true → body_among (live_lsps db) id ≡ body_if_live (get db id)
 among_is_held db id numbered =
-    found_live id (entries db) numbered (true_from_T _ (entries_sorted db)) ∙ ap live_in (sym (get-entries db id))
+    found_live id (entries db) numbered (true_from_T _ (entries_sorted db)) ∙ ap body_if_live (sym (get-entries db id))

@@ -29,5 +29,6 @@ pub mod OwnTables
 pub mod Time
 pub mod TimeLsps
 pub mod Attached
-pub mod OneNumber
+pub mod Bodies
+pub mod Present
 pub mod Configured

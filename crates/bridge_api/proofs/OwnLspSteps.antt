@@ -1,9 +1,9 @@
--- Every step leaves the own LSP of a bridge alive, saying what the bridge has to say.
+-- Every step leaves the own LSPs of a bridge alive, saying what the bridge has to say.
 use Rattle.std.proofs.Common.{◌≡◌, inl, inr, ◌≤◌, ◌+◌, ◌-◌, ℕ, zero, suc, Bool, true, false, List, [], ◌∷◌, map, refl, sym, ap, ◌∙◌, subst, Option, Some, None, arith}
-use Rattle.std.specs.Prelude.{nat_le, slice_get, slice_set, if◌then◌else◌, ◌++◌}
-use Rattle.std.specs.Option.{option_map, option_and_then}
+use Rattle.std.specs.Prelude.{nat_le, slice_set, if◌then◌else◌, ◌++◌}
+use Rattle.std.specs.Option.{option_map}
 use Rattle.std.specs.FinMap.{get}
-use Rattle.std.proofs.lemmas.Bool.{lt-leb}
+use Rattle.std.proofs.lemmas.Bool.{lt-leb, true≢false}
 use Rattle.std.proofs.lemmas.List.{set-set}
 use Rattle.spb_types.specs.declared.address.LspId.{LspId}
 use Rattle.spb_types.specs.declared.ports.PortSet.{PortSet}
@@ -19,19 +19,17 @@ use Rattle.lsdb.specs.Entry.{Entry, srm_set_at, flagged, flags_cleared_at, aged}
 use Rattle.lsdb.specs.Database.{Lsps, version_in, each}
 use Rattle.lsdb.specs.Time.{is_live, lifetime_in}
 use Rattle.lsdb.proofs.LookupLemmas.{get-each}
-use Rattle.flooding.specs.Own.{own_id, body_of_number}
+use Rattle.flooding.specs.Own.{own_number, body_of_number}
 use Rattle.flooding.specs.Hearing.{Holding, claim_of, lsp_rule, hear_lsp_of}
-use Rattle.flooding.specs.Settling.{own_held, says, is_new, settled, kept_fresh, IsLspCurrent, AreCurrent}
+use Rattle.flooding.specs.Settling.{says, is_new, settled, kept_fresh, IsLspCurrent, AreCurrent, LastIfLive}
 use Rattle.flooding.proofs.Owns.{own_stands}
 use Rattle.flooding.proofs.HeardCurrent.{lsp_keeps_current}
-use Rattle.flooding.proofs.OwnNumbers.{some_number}
 use Rattle.flooding.proofs.Current.{settled_is_current, fresh_is_current, current_is_settled}
 use Rattle.flooding.proofs.Settled.{settling_leaves_own}
 use Rattle.snp_sync.specs.SnpEntries.{has_ssn_at}
 use Rattle.snp_sync.specs.Sending.{ssn_cleared as ssn_cleared_entry, all_ssn_cleared}
 use Rattle.snp_sync.specs.Hearing.{claims_in, hear_entries_of, hear_csnp_of}
 use Rattle.snp_sync.proofs.Stays.{entries_leave_own, entries_keep_current, csnp_keeps_current}
-use Rattle.spb_content.specs.Local.{content_bytes}
 use Rattle.adjacency.specs.declared.state.AdjacencyChange.{AdjacencyChange}
 use Rattle.adjacency.specs.declared.state.AdjacencyChange.TheVariants.{Kept, CameUp, LeftUp, Discarded}
 use Rattle.adjacency.specs.Adjacency.{after_hello, change_by_hello, after_carrier, change_of}
@@ -41,7 +39,7 @@ use Rattle.bridge_api.specs.declared.drops.Drops.{Drops}
 use Rattle.spb_types.specs.declared.drop_reason.DropReason.TheVariants as drop
 use Rattle.bridge_api.specs.Drops.{raised_at}
 use Rattle.bridge_api.specs.View.{BridgeView, with_port_at, is_port_up, up_ports, with_drops}
-use Rattle.bridge_api.specs.Own.{neighbour_in, neighbours_from, member_of, body_of, own_of, holding_of, with_holding, own_entry, body_in, Lasts, IsAlive, originated_if_changed}
+use Rattle.bridge_api.specs.Own.{neighbour_in, neighbours_from, bodies_of, body_at, holding_of, with_holding, own_entry, Lasts, IsAlive, originated_if_changed}
 use Rattle.bridge_api.specs.Hearing.{with_csnp_due, with_adjacency, left_up, all_srm_set_at, changed_at, heard_lsp, heard_csnp, heard_psnp, after_receive, with_port_metric}
 use Rattle.bridge_api.specs.Ticking.{leaving_from, flags_cleared_at_all, counts_lowered, expired, refreshed, readied, after_sending_at, after_sending_from, after_sending, after_tick}
 use Rattle.bridge_api.specs.Customers.{with_learned, after_entry}
@@ -49,40 +47,36 @@ use Rattle.bridge_api.specs.Services.{with_attached, without_customer_port, with
 use Rattle.bridge_api.specs.Step.{Input, second, frame, carrier, metric, attach, detach, customer, step}
 use Rattle.bridge_api.specs.Laws.{IsSoundView, LspSettlesNothing, CsnpSettlesNothing, PsnpSettlesNothing}
 use Rattle.bridge_api.proofs.Changes.{frame_step, idle, by_hello, by_lsp, by_csnp, by_psnp, carrier_step, metric_step, originated_if_changed_ports, tick_is, attached_to, with_attached_is}
-use Rattle.bridge_api.proofs.OneNumber.{first_is}
+use Rattle.bridge_api.proofs.Bodies.{held_bodies, moved_bodies, same_at}
 
--- unless its sequence numbers are spent, the own LSP of a bridge is alive and says what the bridge has to say
+-- unless its sequence numbers are spent, each own LSP of a bridge is alive and says what the bridge has to say
 abbrev pub IsSaying : BridgeView → Type 0
-IsSaying v = v.spent ≡ false → IsLspCurrent (Some (body_of v)) (own_entry v)
+IsSaying v = AreCurrent (holding_of v)
 
--- so all its own LSPs are current
-all_current : (v : BridgeView) → IsSaying v → AreCurrent (holding_of v)
-all_current v says fresh = first_is (λ number. IsLspCurrent (body_of_number (own_of v) number) (own_held (holding_of v) number)) (says fresh)
+-- those that are live last so long
+abbrev Last : ℕ → BridgeView → Type 0
+Last least v = v.spent ≡ false → LastIfLive least (holding_of v)
 
--- it is alive
-abbrev Lives : BridgeView → Type 0
-Lives v = v.spent ≡ false → IsAlive (own_entry v)
+abbrev pub Ages : ℕ → Option Entry → Type 0
+Ages least o = is_live (version_in o) ≡ true → (least ≤ lifetime_in o) × (lifetime_in o ≤ 1200)
 
-still_lives : (v : BridgeView) → IsSaying v → Lives v
-still_lives v was fresh = (was fresh).1
+lasts_by : (a : Version) (lifetime : ℕ) → Lasts a lifetime → (301 ≤ lifetime) × (lifetime ≤ 1200)
+lasts_by Absent lifetime lasts = absurd lasts
+lasts_by (Live seq sum) lifetime lasts = lasts
+lasts_by (Dead seq) lifetime lasts = absurd lasts
+
+alive_lasts : (o : Option Entry) → IsAlive o → (301 ≤ lifetime_in o) × (lifetime_in o ≤ 1200)
+alive_lasts None alive = absurd alive
+alive_lasts (Some e) alive = lasts_by e.version e.lifetime alive
+
+pub current_ages : (text : Option (List ℕ)) (o : Option Entry) → IsLspCurrent text o → Ages 301 o
+current_ages None o is live = absurd (true≢false (sym live ∙ is))
+current_ages (Some body) o is live = alive_lasts o is.1
+
+still_last : (v : BridgeView) → IsSaying v → Last 301 v
+still_last v was fresh number below = current_ages (body_at v number) (own_entry v number) (was fresh number below)
 
 -- ---- what the bridge has to say
-
--- it isn't changed by what is held
-pub held_body : (h : Holding) (v : BridgeView) → body_of (with_holding h v) ≡ body_of v
-unfolding body_of
-held_body h v = refl
-
--- and doesn't read the counts
-pub counted_body : (drops : Drops) (v : BridgeView) → body_of (with_drops drops v) ≡ body_of v
-unfolding body_of
-counted_body drops v = refl
-
--- nor by ports with the same neighbours
-pub moved_body : (ports : List BridgePort) (db : Lsps) (v : BridgeView) → neighbours_from 1 ports ≡ neighbours_from 1 v.ports → body_of (record v { ports = ports; database = db }) ≡ body_of v
-unfolding body_of
-moved_body ports db v same =
-    ap (λ (list : List Neighbour). 1 ∷ content_bytes (record { config = record { id = v.id; source = v.source; vids = v.vids }; neighbours = list; attached = map (member_of v.id.system) v.attached })) same
 
 -- whether CSNPs are due isn't said
 pub neighbours_without_csnp_due : (p : ℕ) (ports : List BridgePort) → neighbours_from p (map (with_csnp_due false) ports) ≡ neighbours_from p ports
@@ -95,42 +89,30 @@ neighbours_with_csnp_due p zero port (x ∷ ports) = refl
 neighbours_with_csnp_due p (suc i) port (x ∷ ports) = ap (λ (list : List Neighbour). if is_port_up x then neighbour_in p x ∷ list else list) (neighbours_with_csnp_due (p + 1) i port ports)
 
 -- the bridge that holds what is current
-held_saying : (h : Holding) (v : BridgeView) → h.own.system ≡ v.id.system → h.own.bodies ≡ Some (body_of v) ∷ [] → AreCurrent h → IsSaying (with_holding h v)
-held_saying h v system bodies is fresh =
-    subst (λ b. IsLspCurrent (Some b) (get h.db (own_id v.id.system))) (sym (held_body h v))
-    (subst (λ (bs : List (Option (List ℕ))). IsLspCurrent (option_and_then (λ b. b) (slice_get bs 0)) (get h.db (own_id v.id.system))) bodies
-    (subst (λ x. IsLspCurrent (body_of_number h.own 0) (get h.db (own_id x))) system (is fresh 0 (omega (arith, some_number)))))
+held_saying : (h : Holding) (v : BridgeView) → h.own.system ≡ v.id.system → h.own.bodies ≡ bodies_of v → AreCurrent h → IsSaying (with_holding h v)
+held_saying h v system bodies is fresh number below =
+    subst (λ (b : Option (List ℕ)). IsLspCurrent b (get h.db (own_number v.id.system number))) (same_at number h.own.bodies (bodies_of (with_holding h v)) (bodies ∙ sym (held_bodies h v)))
+    (subst (λ x. IsLspCurrent (body_of_number h.own number) (get h.db (own_number x number))) system (is fresh number below))
 
 -- the counts aren't said
 counted_saying : (drops : Drops) (v : BridgeView) → IsSaying v → IsSaying (with_drops drops v)
-unfolding body_of
+unfolding bodies_of
 counted_saying drops v was = was
 
--- ---- the own LSP is brought up to date
+-- ---- own LSPs are brought up to date
 
-lasts_by : (a : Version) (lifetime : ℕ) → Lasts a lifetime → (301 ≤ lifetime) × (lifetime ≤ 1200)
-lasts_by Absent lifetime lasts = absurd lasts
-lasts_by (Live seq sum) lifetime lasts = lasts
-lasts_by (Dead seq) lifetime lasts = absurd lasts
-
-alive_lasts : (o : Option Entry) → IsAlive o → (301 ≤ lifetime_in o) × (lifetime_in o ≤ 1200)
-alive_lasts None alive = absurd alive
-alive_lasts (Some e) alive = lasts_by e.version e.lifetime alive
-
-originated_if_changed_saying : (v : BridgeView) → Lives v → IsSaying (originated_if_changed v)
+originated_if_changed_saying : (v : BridgeView) → Last 301 v → IsSaying (originated_if_changed v)
 unfolding originated_if_changed
-originated_if_changed_saying v alive =
+originated_if_changed_saying v last =
     let up : PortSet = up_ports v in
     let h : Holding = holding_of v in
     let own = settling_leaves_own says up h in
-    held_saying (settled up h) v own.0 own.1
-    (settled_is_current up h (λ fresh. first_is (λ number. is_live (version_in (own_held h number)) ≡ true → (301 ≤ lifetime_in (own_held h number)) × (lifetime_in (own_held h number) ≤ 1200))
-    (λ live. alive_lasts (own_entry v) (alive fresh))))
+    held_saying (settled up h) v own.0 own.1 (settled_is_current up h last)
 
--- a bridge whose own LSP says what it has to say, or whose sequence numbers are spent, originates nothing
+-- a bridge whose own LSPs say what it has to say, or whose sequence numbers are spent, originates nothing
 pub saying_settles : (v : BridgeView) → IsSaying v → originated_if_changed v ≡ v
 unfolding originated_if_changed
-saying_settles v was = ap (λ (h : Holding). with_holding h v) (current_is_settled (up_ports v) (holding_of v) (all_current v was))
+saying_settles v was = ap (λ (h : Holding). with_holding h v) (current_is_settled (up_ports v) (holding_of v) was)
 
 -- ---- what is heard
 
@@ -139,7 +121,7 @@ heard_lsp_saying l p v was =
     let up : PortSet = up_ports v in
     let h : Holding = holding_of v in
     let own = own_stands (lsp_rule up p l) up (claim_of l) h in
-    counted_saying (heard_lsp l p v).drops (with_holding (hear_lsp_of up p l h) v) (held_saying (hear_lsp_of up p l h) v own.0 own.1 (lsp_keeps_current up p l h (all_current v was)))
+    counted_saying (heard_lsp l p v).drops (with_holding (hear_lsp_of up p l h) v) (held_saying (hear_lsp_of up p l h) v own.0 own.1 (lsp_keeps_current up p l h was))
 
 heard_csnp_saying : (c : CsnpValue) (entries : List SnpEntry) (p : ℕ) (v : BridgeView) → IsSaying v → IsSaying (heard_csnp c entries p v)
 heard_csnp_saying c entries p v was =
@@ -147,7 +129,7 @@ heard_csnp_saying c entries p v was =
     let h : Holding = holding_of v in
     let g : Holding = hear_csnp_of up p c.start c.end (claims_in entries) h in
     let own = entries_leave_own up p (claims_in entries) h in
-    counted_saying (heard_csnp c entries p v).drops (with_holding g v) (held_saying g v own.0 own.1 (csnp_keeps_current up p c.start c.end (claims_in entries) h (all_current v was)))
+    counted_saying (heard_csnp c entries p v).drops (with_holding g v) (held_saying g v own.0 own.1 (csnp_keeps_current up p c.start c.end (claims_in entries) h was))
 
 heard_psnp_saying : (entries : List SnpEntry) (p : ℕ) (v : BridgeView) → IsSaying v → IsSaying (heard_psnp entries p v)
 heard_psnp_saying entries p v was =
@@ -155,10 +137,10 @@ heard_psnp_saying entries p v was =
     let h : Holding = holding_of v in
     let g : Holding = hear_entries_of up p (claims_in entries) h in
     let own = entries_leave_own up p (claims_in entries) h in
-    counted_saying (heard_psnp entries p v).drops (with_holding g v) (held_saying g v own.0 own.1 (entries_keep_current up p (claims_in entries) h (all_current v was)))
+    counted_saying (heard_psnp entries p v).drops (with_holding g v) (held_saying g v own.0 own.1 (entries_keep_current up p (claims_in entries) h was))
 
 pub was_saying : (v : BridgeView) → IsSoundView v → IsSaying v
-was_saying v was fresh = (was.own.said fresh, was.own.alive fresh)
+was_saying v was = was.own.current
 
 pub lsp_settles_nothing : LspSettlesNothing
 lsp_settles_nothing v l p was = saying_settles (heard_lsp l p v) (heard_lsp_saying l p v (was_saying v was))
@@ -171,38 +153,45 @@ psnp_settles_nothing v entries p was = saying_settles (heard_psnp entries p v) (
 
 -- ---- something came to pass at a port
 
--- an entry changed that stays alive
-mapped_alive : (f : Entry → Entry) (o : Option Entry) → ((e : Entry) → IsAlive (Some e) → IsAlive (Some (f e))) → IsAlive o → IsAlive (option_map f o)
-mapped_alive f None keeps alive = absurd alive
-mapped_alive f (Some e) keeps alive = keeps e alive
+-- an entry changed that lasts as long
+mapped_ages : (least more : ℕ) (f : Entry → Entry) (o : Option Entry) → ((e : Entry) → Ages more (Some e) → Ages least (Some (f e))) → Ages more o → Ages least (option_map f o)
+mapped_ages least more f None keeps ages = λ live. absurd cc
+mapped_ages least more f (Some e) keeps ages = keeps e ages
 
-left_lives : (p : ℕ) (port : BridgePort) (v : BridgeView) → Lives v → Lives (left_up p port v)
-left_lives p port v alive fresh =
-    subst IsAlive (sym (get-each (λ id e. flags_cleared_at p e) v.database (own_id v.id.system))) (mapped_alive (flags_cleared_at p) (own_entry v) (λ e is. is) (alive fresh))
+left_last : (p : ℕ) (port : BridgePort) (v : BridgeView) → Last 301 v → Last 301 (left_up p port v)
+left_last p port v last fresh number below =
+    subst (Ages 301) (sym (get-each (λ id e. flags_cleared_at p e) v.database (own_number v.id.system number)))
+    (mapped_ages 301 301 (flags_cleared_at p) (own_entry v number) (λ e is. is) (last fresh number below))
 
 -- an entry changed in its flags alone
-mapped_says : (body : List ℕ) (f : Entry → Entry) (o : Option Entry) → ((e : Entry) → IsLspCurrent (Some body) (Some e) → IsLspCurrent (Some body) (Some (f e))) → IsLspCurrent (Some body) o → IsLspCurrent (Some body) (option_map f o)
-mapped_says body f None keeps says = absurd (says.1)
+mapped_says : (body : Option (List ℕ)) (f : Entry → Entry) (o : Option Entry) → ((e : Entry) → IsLspCurrent body (Some e) → IsLspCurrent body (Some (f e))) → IsLspCurrent body o → IsLspCurrent body (option_map f o)
+mapped_says body f None keeps says = says
 mapped_says body f (Some e) keeps says = keeps e says
 
-srm_set_says : (body : List ℕ) (p : ℕ) (e : Entry) (b : Bool) → IsLspCurrent (Some body) (Some e) → IsLspCurrent (Some body) (Some (if b then e else flagged p e))
-srm_set_says body p e true says = says
-srm_set_says body p e false says = says
+srm_set_says : (body : Option (List ℕ)) (p : ℕ) (e : Entry) (b : Bool) → IsLspCurrent body (Some e) → IsLspCurrent body (Some (if b then e else flagged p e))
+srm_set_says None p e true says = says
+srm_set_says None p e false says = says
+srm_set_says (Some body) p e true says = says
+srm_set_says (Some body) p e false says = says
 
 -- the bridge with ports that have the same neighbours, and with every entry changed in its flags alone
-pub moved_saying : (ports : List BridgePort) (db : Lsps) (v : BridgeView) → neighbours_from 1 ports ≡ neighbours_from 1 v.ports → (IsLspCurrent (Some (body_of v)) (own_entry v) → IsLspCurrent (Some (body_of v)) (get db (own_id v.id.system))) → IsSaying v → IsSaying (record v { ports = ports; database = db })
-moved_saying ports db v same keeps was fresh = subst (λ b. IsLspCurrent (Some b) (get db (own_id v.id.system))) (sym (moved_body ports db v same)) (keeps (was fresh))
+pub moved_saying : (ports : List BridgePort) (db : Lsps) (v : BridgeView) → neighbours_from 1 ports ≡ neighbours_from 1 v.ports
+    → ((number : ℕ) → IsLspCurrent (body_at v number) (own_entry v number) → IsLspCurrent (body_at v number) (get db (own_number v.id.system number)))
+    → IsSaying v → IsSaying (record v { ports = ports; database = db })
+moved_saying ports db v same keeps was fresh number below =
+    subst (λ (b : Option (List ℕ)). IsLspCurrent b (get db (own_number v.id.system number))) (same_at number (bodies_of v) (bodies_of (record v { ports = ports; database = db })) (sym (moved_bodies ports db v same)))
+    (keeps number (was fresh number below))
 
 srm_set_saying : (p : ℕ) (port : BridgePort) (v : BridgeView) → neighbours_from 1 (slice_set v.ports (p - 1) (with_csnp_due true port)) ≡ neighbours_from 1 v.ports → IsSaying v → IsSaying (all_srm_set_at p port v)
 srm_set_saying p port v same was =
-    let id : LspId = own_id v.id.system in
     moved_saying (slice_set v.ports (p - 1) (with_csnp_due true port)) (each (λ x e. srm_set_at p e) v.database) v same
-    (λ says. subst (IsLspCurrent (Some (body_of v))) (sym (get-each (λ x e. srm_set_at p e) v.database id)) (mapped_says (body_of v) (srm_set_at p) (own_entry v) (λ e. srm_set_says (body_of v) p e (is_absent e.version)) says)) was
+    (λ number says. subst (IsLspCurrent (body_at v number)) (sym (get-each (λ x e. srm_set_at p e) v.database (own_number v.id.system number)))
+    (mapped_says (body_at v number) (srm_set_at p) (own_entry v number) (λ e. srm_set_says (body_at v number) p e (is_absent e.version)) says)) was
 
 changed_saying : (heard : AdjacencyChange) (p : ℕ) (port : BridgePort) (v : BridgeView) → IsSaying v → IsSaying (changed_at heard p port v)
 changed_saying Discarded p port v was = counted_saying (raised_at drop.Hello 1 v.drops) v was
-changed_saying Kept p port v was = originated_if_changed_saying (with_port_at p port v) (still_lives v was)
-changed_saying LeftUp p port v was = originated_if_changed_saying (left_up p port v) (left_lives p port v (still_lives v was))
+changed_saying Kept p port v was = originated_if_changed_saying (with_port_at p port v) (still_last v was)
+changed_saying LeftUp p port v was = originated_if_changed_saying (left_up p port v) (left_last p port v (still_last v was))
 changed_saying CameUp p port v was =
     let w : BridgeView = left_up p port v in
     let ports : (originated_if_changed w).ports ≡ slice_set v.ports (p - 1) (with_csnp_due false port) = originated_if_changed_ports w in
@@ -210,96 +199,77 @@ changed_saying CameUp p port v was =
     ap (λ (list : List BridgePort). neighbours_from 1 (slice_set list (p - 1) (with_csnp_due true port))) ports
     ∙ (ap (neighbours_from 1) (set-set v.ports (p - 1) (with_csnp_due false port) (with_csnp_due true port))
     ∙ (neighbours_with_csnp_due 1 (p - 1) port v.ports ∙ ap (neighbours_from 1) (sym ports))) in
-    srm_set_saying p port (originated_if_changed w) same (originated_if_changed_saying w (left_lives p port v (still_lives v was)))
+    srm_set_saying p port (originated_if_changed w) same (originated_if_changed_saying w (left_last p port v (still_last v was)))
 
 -- ---- a second
 
--- an LSP a second later: live for 300 seconds or more
-abbrev Fades : Version → ℕ → Type 0
-Fades Absent lifetime = ⊥
-Fades (Live seq sum) lifetime = (300 ≤ lifetime) × (lifetime ≤ 1200)
-Fades (Dead seq) lifetime = ⊥
+-- an LSP a second later is live for 300 seconds or more
+aged_by : (up : PortSet) (a : Version) (lifetime : ℕ) (body : List ℕ) (srm ssn : PortSet) → Ages 301 (Some (record { version = a; lifetime = lifetime; body = body; srm = srm; ssn = ssn })) → Ages 300 (Some (aged up (record { version = a; lifetime = lifetime; body = body; srm = srm; ssn = ssn })))
+aged_by up Absent lifetime body srm ssn ages live = absurd cc
+aged_by up (Live seq sum) lifetime body srm ssn ages live =
+    let range = ages refl in
+    let more : nat_le lifetime 1 ≡ false = lt-leb lifetime 1 (omega (arith, range.0)) in
+    rw more (omega (arith, range.0), omega (arith, range.1))
+aged_by up (Dead seq) lifetime body srm ssn ages live = absurd cc
 
-abbrev IsFading : Option Entry → Type 0
-IsFading None = ⊥
-IsFading (Some e) = Fades e.version e.lifetime
+flags_cleared_ages : (ps : List ℕ) (e : Entry) → Ages 301 (Some e) → Ages 301 (Some (flags_cleared_at_all ps e))
+flags_cleared_ages [] e ages = ages
+flags_cleared_ages (p ∷ ps) e ages = flags_cleared_ages ps (flags_cleared_at p e) ages
 
-aged_fades : (up : PortSet) (a : Version) (lifetime : ℕ) (body : List ℕ) (srm ssn : PortSet) → IsAlive (Some (record { version = a; lifetime = lifetime; body = body; srm = srm; ssn = ssn })) → IsFading (Some (aged up (record { version = a; lifetime = lifetime; body = body; srm = srm; ssn = ssn })))
-aged_fades up Absent lifetime body srm ssn alive = absurd alive
-aged_fades up (Live seq sum) lifetime body srm ssn alive =
-    let more : nat_le lifetime 1 ≡ false = lt-leb lifetime 1 (omega (arith, alive.0)) in
-    rw more (omega (arith, alive.0), omega (arith, alive.1))
-aged_fades up (Dead seq) lifetime body srm ssn alive = absurd alive
-
-aged_in : (up : PortSet) (o : Option Entry) → IsAlive o → IsFading (option_map (aged up) o)
-aged_in up None alive = absurd alive
-aged_in up (Some e) alive = aged_fades up e.version e.lifetime e.body e.srm e.ssn alive
-
-flags_cleared_alive : (ps : List ℕ) (e : Entry) → IsAlive (Some e) → IsAlive (Some (flags_cleared_at_all ps e))
-flags_cleared_alive [] e alive = alive
-flags_cleared_alive (p ∷ ps) e alive = flags_cleared_alive ps (flags_cleared_at p e) alive
-
-counts_lowered_lives : (v : BridgeView) → Lives v → Lives (counts_lowered v)
-counts_lowered_lives v alive fresh =
+counts_lowered_last : (v : BridgeView) → Last 301 v → Last 301 (counts_lowered v)
+counts_lowered_last v last fresh number below =
     let ps : List ℕ = leaving_from 1 v.ports in
-    subst IsAlive (sym (get-each (λ id e. flags_cleared_at_all ps e) v.database (own_id v.id.system))) (mapped_alive (flags_cleared_at_all ps) (own_entry v) (flags_cleared_alive ps) (alive fresh))
+    subst (Ages 301) (sym (get-each (λ id e. flags_cleared_at_all ps e) v.database (own_number v.id.system number)))
+    (mapped_ages 301 301 (flags_cleared_at_all ps) (own_entry v number) (flags_cleared_ages ps) (last fresh number below))
 
-expired_fades : (v : BridgeView) → Lives v → v.spent ≡ false → IsFading (own_entry (expired v))
-expired_fades v alive fresh =
+expired_last : (v : BridgeView) → Last 301 v → Last 300 (expired v)
+expired_last v last fresh number below =
     let up : PortSet = up_ports v in
-    subst IsFading (sym (get-each (λ id e. aged up e) v.database (own_id v.id.system))) (aged_in up (own_entry v) (alive fresh))
+    subst (Ages 300) (sym (get-each (λ id e. aged up e) v.database (own_number v.id.system number)))
+    (mapped_ages 300 301 (aged up) (own_entry v number) (λ e ages. aged_by up e.version e.lifetime e.body e.srm e.ssn ages) (last fresh number below))
 
-fades_by : (a : Version) (lifetime : ℕ) → Fades a lifetime → (300 ≤ lifetime) × (lifetime ≤ 1200)
-fades_by Absent lifetime fades = absurd fades
-fades_by (Live seq sum) lifetime fades = fades
-fades_by (Dead seq) lifetime fades = absurd fades
-
-fading_lasts : (o : Option Entry) → IsFading o → (300 ≤ lifetime_in o) × (lifetime_in o ≤ 1200)
-fading_lasts None fades = absurd fades
-fading_lasts (Some e) fades = fades_by e.version e.lifetime fades
-
-refreshed_saying : (v : BridgeView) → (v.spent ≡ false → IsFading (own_entry v)) → IsSaying (refreshed v)
+refreshed_saying : (v : BridgeView) → Last 300 v → IsSaying (refreshed v)
 unfolding refreshed
-refreshed_saying v fades =
+refreshed_saying v last =
     let up : PortSet = up_ports v in
     let h : Holding = holding_of v in
     let own = settling_leaves_own is_new up h in
-    held_saying (kept_fresh up h) v own.0 own.1
-    (fresh_is_current up h (λ fresh. first_is (λ number. is_live (version_in (own_held h number)) ≡ true → (300 ≤ lifetime_in (own_held h number)) × (lifetime_in (own_held h number) ≤ 1200))
-    (λ live. fading_lasts (own_entry v) (fades fresh))))
+    held_saying (kept_fresh up h) v own.0 own.1 (fresh_is_current up h last)
 
 -- what had SSN was sent
-ssn_says : (body : List ℕ) (p : ℕ) (e : Entry) (b : Bool) → IsLspCurrent (Some body) (Some e) → IsLspCurrent (Some body) (Some (if b then record e { ssn = without_port e.ssn p } else e))
-ssn_says body p e true says = says
-ssn_says body p e false says = says
+ssn_says : (body : Option (List ℕ)) (p : ℕ) (e : Entry) (b : Bool) → IsLspCurrent body (Some e) → IsLspCurrent body (Some (if b then record e { ssn = without_port e.ssn p } else e))
+ssn_says None p e true says = says
+ssn_says None p e false says = says
+ssn_says (Some body) p e true says = says
+ssn_says (Some body) p e false says = says
 
-originated_if_changed_says : (body : List ℕ) (id : LspId) (p : ℕ) (db : Lsps) → IsLspCurrent (Some body) (get db id) → IsLspCurrent (Some body) (get (all_ssn_cleared p db) id)
-originated_if_changed_says body id p db says =
-    subst (IsLspCurrent (Some body)) (sym (get-each (λ x e. ssn_cleared_entry p e) db id)) (mapped_says body (ssn_cleared_entry p) (get db id) (λ e. ssn_says body p e (has_ssn_at p e)) says)
+ssn_cleared_says : (body : Option (List ℕ)) (id : LspId) (p : ℕ) (db : Lsps) → IsLspCurrent body (get db id) → IsLspCurrent body (get (all_ssn_cleared p db) id)
+ssn_cleared_says body id p db says =
+    subst (IsLspCurrent body) (sym (get-each (λ x e. ssn_cleared_entry p e) db id)) (mapped_says body (ssn_cleared_entry p) (get db id) (λ e. ssn_says body p e (has_ssn_at p e)) says)
 
-after_sending_at_says : (body : List ℕ) (id : LspId) (p : ℕ) (b : Bool) (db : Lsps) → IsLspCurrent (Some body) (get db id) → IsLspCurrent (Some body) (get (if b then all_ssn_cleared p db else db) id)
-after_sending_at_says body id p true db says = originated_if_changed_says body id p db says
+after_sending_at_says : (body : Option (List ℕ)) (id : LspId) (p : ℕ) (b : Bool) (db : Lsps) → IsLspCurrent body (get db id) → IsLspCurrent body (get (if b then all_ssn_cleared p db else db) id)
+after_sending_at_says body id p true db says = ssn_cleared_says body id p db says
 after_sending_at_says body id p false db says = says
 
-after_sending_from_says : (body : List ℕ) (id : LspId) (p : ℕ) (ports : List BridgePort) (db : Lsps) → IsLspCurrent (Some body) (get db id) → IsLspCurrent (Some body) (get (after_sending_from p ports db) id)
+after_sending_from_says : (body : Option (List ℕ)) (id : LspId) (p : ℕ) (ports : List BridgePort) (db : Lsps) → IsLspCurrent body (get db id) → IsLspCurrent body (get (after_sending_from p ports db) id)
 after_sending_from_says body id p [] db says = says
 after_sending_from_says body id p (port ∷ ports) db says = after_sending_from_says body id (p + 1) ports (after_sending_at p port db) (after_sending_at_says body id p (is_port_up port) db says)
 
 after_sending_saying : (v : BridgeView) → IsSaying v → IsSaying (after_sending v)
 after_sending_saying v was =
     moved_saying (map (with_csnp_due false) v.ports) (after_sending_from 1 v.ports v.database) v (neighbours_without_csnp_due 1 v.ports)
-    (after_sending_from_says (body_of v) (own_id v.id.system) 1 v.ports v.database) was
+    (λ number says. after_sending_from_says (body_at v number) (own_number v.id.system number) 1 v.ports v.database says) was
 
 tick_saying : (v : BridgeView) → IsSaying v → IsSaying (after_tick v)
 tick_saying v was =
     let w : BridgeView = counts_lowered v in
-    subst IsSaying (sym (tick_is v)) (after_sending_saying (readied v) (refreshed_saying (expired w) (expired_fades w (counts_lowered_lives v (still_lives v was)))))
+    subst IsSaying (sym (tick_is v)) (after_sending_saying (readied v) (refreshed_saying (expired w) (expired_last w (counts_lowered_last v (still_last v was)))))
 
 -- ---- every step
 
 -- what was learned and counted isn't said
 learned_saying : (learned : Addresses) (drops : Drops) (v : BridgeView) → IsSaying v → IsSaying (with_drops drops (with_learned learned v))
-unfolding body_of
+unfolding bodies_of
 learned_saying learned drops v was = was
 
 frame_saying : (q : ℕ) (bytes : List ℕ) (v : BridgeView) → IsSaying v → IsSaying (after_receive q bytes v)
@@ -309,13 +279,13 @@ frame_saying q bytes v was =
       | by_hello g ↦
           subst IsSaying (sym g.after)
           (changed_saying (change_by_hello v.id.system q g.hello g.way g.port.adjacency) q (with_adjacency (after_hello v.id.system q g.hello g.way g.port.adjacency) g.port) v was)
-      | by_lsp g ↦ subst IsSaying (sym g.after) (originated_if_changed_saying (heard_lsp g.lsp q v) (still_lives (heard_lsp g.lsp q v) (heard_lsp_saying g.lsp q v was)))
-      | by_csnp g ↦ subst IsSaying (sym g.after) (originated_if_changed_saying (heard_csnp g.csnp g.entries q v) (still_lives (heard_csnp g.csnp g.entries q v) (heard_csnp_saying g.csnp g.entries q v was)))
-      | by_psnp g ↦ subst IsSaying (sym g.after) (originated_if_changed_saying (heard_psnp g.entries q v) (still_lives (heard_psnp g.entries q v) (heard_psnp_saying g.entries q v was)))
+      | by_lsp g ↦ subst IsSaying (sym g.after) (originated_if_changed_saying (heard_lsp g.lsp q v) (still_last (heard_lsp g.lsp q v) (heard_lsp_saying g.lsp q v was)))
+      | by_csnp g ↦ subst IsSaying (sym g.after) (originated_if_changed_saying (heard_csnp g.csnp g.entries q v) (still_last (heard_csnp g.csnp g.entries q v) (heard_csnp_saying g.csnp g.entries q v was)))
+      | by_psnp g ↦ subst IsSaying (sym g.after) (originated_if_changed_saying (heard_psnp g.entries q v) (still_last (heard_psnp g.entries q v) (heard_psnp_saying g.entries q v was)))
     ]
 
 attached_saying : (attached : List Attachment) (v : BridgeView) → IsSaying v → IsSaying (with_attached attached v)
-attached_saying attached v was = subst IsSaying (sym (with_attached_is attached v)) (originated_if_changed_saying (attached_to attached v) (still_lives v was))
+attached_saying attached v was = subst IsSaying (sym (with_attached_is attached v)) (originated_if_changed_saying (attached_to attached v) (still_last v was))
 
 pub steps_stay_saying : (input : Input) (v : BridgeView) → IsSaying v → IsSaying (step input v)
 unfolding with_port_forgotten after_entry
@@ -329,7 +299,7 @@ steps_stay_saying (carrier q on) v was =
 steps_stay_saying (metric q m) v was =
     elim (metric_step v q m) [
       | inl e ↦ subst IsSaying (sym e) was
-      | inr g ↦ subst IsSaying (sym g.after) (originated_if_changed_saying (with_port_at q (with_port_metric m g.port) v) (still_lives v was))
+      | inr g ↦ subst IsSaying (sym g.after) (originated_if_changed_saying (with_port_at q (with_port_metric m g.port) v) (still_last v was))
     ]
 steps_stay_saying (attach a) v was = attached_saying (v.attached ++ a ∷ []) v was
 steps_stay_saying (detach p) v was = attached_saying (without_customer_port p v.attached) (with_port_forgotten p v) (learned_saying (with_port_forgotten p v).learned v.drops v was)

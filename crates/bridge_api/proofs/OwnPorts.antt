@@ -1,5 +1,5 @@
--- The own LSP of a bridge lists each neighbour at a port of its own.
-use Rattle.std.proofs.Common.{◌≡◌, ◌≢◌, inl, inr, ◌≤◌, ◌<◌, ◌+◌, ℕ, Bool, true, false, List, [], ◌∷◌, length, refl, sym, ap, ◌∙◌, subst, Option, Some, None, arith}
+-- Of its own LSPs number 0 lists each neighbour of a bridge at a port of its own, and the others list none.
+use Rattle.std.proofs.Common.{◌≡◌, ◌≢◌, inl, inr, ◌≤◌, ◌<◌, ◌+◌, ℕ, zero, suc, Bool, true, false, List, [], ◌∷◌, length, refl, sym, ap, ◌∙◌, subst, Option, Some, None, arith}
 use Rattle.std.specs.Prelude.{◌&&◌, is_some, if◌then◌else◌}
 use Rattle.std.specs.Option.{option_map}
 use Rattle.std.specs.List.{AllByRecursion}
@@ -9,27 +9,42 @@ use Rattle.spb_tlvs.specs.declared.neighbours.Neighbour.{Neighbour}
 use Rattle.spb_tlvs.specs.Piece.{pieces, pieces_within}
 use Rattle.lsdb.specs.Entry.{Entry}
 use Rattle.flooding.specs.declared.own.Own.{Own}
-use Rattle.flooding.specs.Own.{body_of_number, tlvs_of_body, body_in}
+use Rattle.flooding.specs.Own.{own_numbers, body_of_number, tlvs_of_body, body_in}
 use Rattle.flooding.specs.Laws.{IsOwnBody, stays, renews, ends}
 use Rattle.spb_content.specs.declared.content.Content.{Content}
-use Rattle.spb_content.specs.Content.{content_in}
+use Rattle.spb_content.specs.Content.{content_in, neighbours_in}
+use Rattle.spb_content.specs.declared.local.Local.{Local}
+use Rattle.spb_content.specs.Fragments.{part_of, fragment}
 use Rattle.spb_content.specs.Graph.{Contents, said_of, ArePortsApart, HasPorts}
+use Rattle.spb_content.specs.Laws.{HasFields}
+use Rattle.spb_content.specs.Local.{IsLocal, content_bytes}
 use Rattle.spb_content.proofs.Again.{read_again}
+use Rattle.spb_content.proofs.Parts.{is_part, part_fields}
+use Rattle.spb_content.proofs.Told.{others_say_services}
 use Rattle.bridge_api.specs.declared.port.BridgePort.{BridgePort}
 use Rattle.bridge_api.specs.View.{BridgeView, is_port_up}
-use Rattle.bridge_api.specs.Own.{neighbour_in, neighbours_from, local_of, own_entry, body_of}
+use Rattle.bridge_api.specs.Own.{neighbour_in, neighbours_from, local_of, body_at, own_entry, IsOwnLspCurrent}
 use Rattle.bridge_api.specs.Laws.{CanSay}
-use Rattle.bridge_api.proofs.GraphRead.{tlvs_said}
+use Rattle.bridge_api.proofs.Bodies.{IsFragment, is_fragment}
 
 -- a body that lists each neighbour at a port of its own
 abbrev pub HasApart : List ℕ → Type 0
 HasApart body = HasPorts (content_in (tlvs_of_body body))
 
+-- the body of an own number: number 0 lists each neighbour so, and the others list none
+abbrev pub HasText : ℕ → List ℕ → Type 0
+HasText zero body = HasApart body
+HasText (suc number) body = neighbours_in (tlvs_of_body body) ≡ []
+
 -- ---- a body without TLVs
 
-none_listed : (content_in []).neighbours ≡ []
-unfolding content_in pieces pieces_within
+none_listed : neighbours_in [] ≡ []
+unfolding pieces pieces_within
 none_listed = refl
+
+neighbours_are : (tlvs : List ℕ) → (content_in tlvs).neighbours ≡ neighbours_in tlvs
+unfolding content_in
+neighbours_are tlvs = refl
 
 unlisted : (c : Content) → c.neighbours ≡ [] → HasPorts c
 unlisted c none = record {
@@ -38,7 +53,15 @@ unlisted c none = record {
 }
 
 pub empty_apart : HasApart []
-empty_apart = unlisted (content_in []) none_listed
+empty_apart = unlisted (content_in []) (neighbours_are [] ∙ none_listed)
+
+pub empty_text : (number : ℕ) → HasText number []
+empty_text zero = empty_apart
+empty_text (suc number) = none_listed
+
+pub dead_text : (number : ℕ) → HasText number (1 ∷ [])
+dead_text zero = empty_apart
+dead_text (suc number) = none_listed
 
 -- ---- the body that a bridge writes
 
@@ -76,20 +99,48 @@ in_range : (ns : List Neighbour) → AllByRecursion (IsBetween 1 33) ns → AllB
 in_range [] all = tt
 in_range (n ∷ ns) all = let first = all.0 in ((first.from, omega (arith, first.to)), in_range ns all.1)
 
-pub body_apart : (v : BridgeView) → length v.ports ≤ 32 → CanSay v → HasApart (body_of v)
-body_apart v few can =
-    subst HasPorts (sym (ap content_in (tlvs_said v) ∙ read_again (local_of v) can.local can.fields)) (record {
-      each = in_range (neighbours_from 1 v.ports) (listed_from 1 33 v.ports (omega (arith, few)));
-      apart = apart_from 1 33 v.ports (omega (arith, few));
-    })
+-- what is said of the services of number 0 lists the neighbours of the bridge
+first_said : (l : Local) → IsLocal l → HasFields l → (content_in (content_bytes (part_of 0 l))).neighbours ≡ l.neighbours
+first_said l is fields = ap (λ (c : Content). c.neighbours) (read_again (part_of 0 l) (is_part 0 l is) (part_fields 0 l fields))
+
+first_apart : (v : BridgeView) → length v.ports ≤ 32 → CanSay v → HasPorts (content_in (content_bytes (part_of 0 (local_of v))))
+first_apart v few can =
+    let said : (content_in (content_bytes (part_of 0 (local_of v)))).neighbours ≡ neighbours_from 1 v.ports = first_said (local_of v) can.local can.fields in
+    record {
+      each = subst (λ (ns : List Neighbour). AllByRecursion (λ n. (1 ≤ n.port) × (n.port ≤ 32)) ns) (sym said) (in_range (neighbours_from 1 v.ports) (listed_from 1 33 v.ports (omega (arith, few))));
+      apart = subst ArePortsApart (sym said) (apart_from 1 33 v.ports (omega (arith, few)));
+    }
+
+others_list_none : (l : Local) (k : ℕ) (tlvs : List ℕ) → IsLocal l → HasFields l → fragment l (suc k) ≡ Some tlvs → neighbours_in tlvs ≡ []
+others_list_none l k tlvs is fields exists = sym (neighbours_are tlvs) ∙ ap (λ (c : Content). c.neighbours) (others_say_services l k tlvs is fields exists)
+
+text_of : (v : BridgeView) (number : ℕ) (tlvs : List ℕ) → length v.ports ≤ 32 → CanSay v → fragment (local_of v) number ≡ Some tlvs → HasText number (1 ∷ tlvs)
+unfolding fragment
+text_of v zero tlvs few can exists = let same : content_bytes (part_of 0 (local_of v)) ≡ tlvs = cc in subst (λ (bytes : List ℕ). HasPorts (content_in bytes)) same (first_apart v few can)
+text_of v (suc k) tlvs few can exists = others_list_none (local_of v) k tlvs can.local can.fields exists
+
+pub bodies_text : (v : BridgeView) → length v.ports ≤ 32 → CanSay v → (number : ℕ) (body : List ℕ) → body_at v number ≡ Some body → HasText number body
+bodies_text v few can number body is =
+    let f : IsFragment v number body = is_fragment v number body is in
+    subst (HasText number) (sym f.is) (text_of v number f.tlvs few can f.exists)
 
 -- ---- whatever becomes of it
 
-pub own_apart : (own : Own) (id : LspId) (old new : Option Entry) → ((body : List ℕ) → body_of_number own id.number ≡ Some body → HasApart body) → IsOwnBody own id old new → HasApart (body_in old) → HasApart (body_in new)
-own_apart own id old new said (stays e) was = subst HasApart (sym e) was
-own_apart own id old new said (renews e) was = said (body_in new) e
-own_apart own id old new said (ends e) was = subst HasApart (sym e) empty_apart
+pub own_text : (own : Own) (id : LspId) (old new : Option Entry) → ((body : List ℕ) → body_of_number own id.number ≡ Some body → HasText id.number body) → IsOwnBody own id old new → HasText id.number (body_in old) → HasText id.number (body_in new)
+own_text own id old new said (stays e) was = subst (HasText id.number) (sym e) was
+own_text own id old new said (renews e) was = said (body_in new) e
+own_text own id old new said (ends e) was = subst (HasText id.number) (sym e) (dead_text id.number)
 
-pub mapped_apart : (f : Entry → Entry) (o : Option Entry) → ((e : Entry) → HasApart e.body → HasApart (f e).body) → HasApart (body_in o) → HasApart (body_in (option_map f o))
-mapped_apart f None keeps was = was
-mapped_apart f (Some e) keeps was = keeps e was
+pub mapped_text : (number : ℕ) (f : Entry → Entry) (o : Option Entry) → ((e : Entry) → HasText number e.body → HasText number (f e).body) → HasText number (body_in o) → HasText number (body_in (option_map f o))
+mapped_text number f None keeps was = was
+mapped_text number f (Some e) keeps was = keeps e was
+
+-- the texts of own LSPs, number by number
+pub texts_of : (v : BridgeView) → IsOwnLspCurrent v → (number : ℕ) → number < own_numbers → HasText number (body_in (own_entry v number))
+texts_of v own zero below = own.text
+texts_of v own (suc number) below = own.others (suc number) (omega arith) below
+
+pub others_of : (v : BridgeView) → ((number : ℕ) → number < own_numbers → HasText number (body_in (own_entry v number))) → (number : ℕ) → 1 ≤ number → number < own_numbers
+    → neighbours_in (tlvs_of_body (body_in (own_entry v number))) ≡ []
+others_of v texts zero some below = absurd (omega (arith, some))
+others_of v texts (suc number) some below = texts (suc number) below

@@ -34,9 +34,9 @@ use Rattle.spb_content.specs.declared.content.Content.{Content}
 use Rattle.spb_content.specs.Content.{or_nothing, neighbours_in, content_in}
 use Rattle.spb_content.specs.Graph.{Contents, said_of, ArePortsApart, HasPorts}
 use Rattle.spb_content.proofs.Members.{Has, contains_from_has}
-use Rattle.bridge_api.specs.Tables.{is_numbered, live_body, live_lsps, body_among, tlvs_under, tlvs_among, said_among, contents_of}
+use Rattle.bridge_api.specs.Tables.{is_numbered, live_body, body_if_live, live_lsps, body_among, tlvs_under, tlvs_among, said_among, contents_of}
 use Rattle.bridge_api.specs.Graph.{content_held, OwnPortsAreApart}
-use Rattle.bridge_api.proofs.GraphRead.{live_in, number_read, among_is_held, reads_what_is_held}
+use Rattle.bridge_api.proofs.GraphRead.{number_read, among_is_held, reads_what_is_held}
 
 -- ---- whole TLVs put together
 
@@ -67,7 +67,7 @@ none_in_nothing = refl
 -- ---- the TLVs of a system's LSPs
 
 -- the TLVs under an id are those that are held, if they are live, and else none
-tlvs_held : (db : Lsps) (id : LspId) → is_numbered id ≡ true → tlvs_under (live_lsps db) id ≡ tlvs_of_body (unwrap_or (live_in (get db id)) [])
+tlvs_held : (db : Lsps) (id : LspId) → is_numbered id ≡ true → tlvs_under (live_lsps db) id ≡ tlvs_of_body (unwrap_or (body_if_live (get db id)) [])
 tlvs_held db id numbered = ap (λ o. tlvs_of_body (unwrap_or o [])) (among_is_held db id numbered)
 
 live_tlvs : (a : Version) (body : List ℕ) (P : List ℕ → Type 0) → P (tlvs_of_body body) → P [] → P (tlvs_of_body (unwrap_or (live_body a body) []))
@@ -76,7 +76,7 @@ live_tlvs (Live seq sum) body P some none = some
 live_tlvs (Dead seq) body P some none = none
 
 -- what is so of the TLVs that are held and of none is so of them
-held_tlvs : (P : List ℕ → Type 0) (o : Option Entry) → ((e : Entry) → o ≡ Some e → P (tlvs_of_body e.body)) → P [] → P (tlvs_of_body (unwrap_or (live_in o) []))
+held_tlvs : (P : List ℕ → Type 0) (o : Option Entry) → ((e : Entry) → o ≡ Some e → P (tlvs_of_body e.body)) → P [] → P (tlvs_of_body (unwrap_or (body_if_live o) []))
 held_tlvs P None some none = none
 held_tlvs P (Some e) some none = live_tlvs e.version e.body P (some e refl) none
 
@@ -121,7 +121,7 @@ first_lists_all db x (suc n) is some few =
     ∙ (ap (λ (ns : List Neighbour). neighbours_in (tlvs_under (live_lsps db) (own_id x)) ++ ns) (others_list_none db x n (0 + 1) is (omega arith) (omega (arith, few)))
     ∙ append-nil (neighbours_in (tlvs_under (live_lsps db) (own_id x))))
 
-live_is : (o : Option Entry) → is_live (version_in o) ≡ true → tlvs_of_body (unwrap_or (live_in o) []) ≡ tlvs_of_body (body_in o)
+live_is : (o : Option Entry) → is_live (version_in o) ≡ true → tlvs_of_body (unwrap_or (body_if_live o) []) ≡ tlvs_of_body (body_in o)
 live_is None live = absurd cc
 live_is (Some e) live = by e.version live
   where

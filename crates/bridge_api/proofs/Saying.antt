@@ -1,4 +1,4 @@
--- What a configured bridge says of itself can be written, and fits one LSP.
+-- What a configured bridge says of itself can be written, and fits its LSPs.
 use Rattle.std.proofs.Common.{◌≡◌, ◌≢◌, inl, inr, ◌≤◌, ◌+◌, ℕ, Bool, true, false, List, [], ◌∷◌, length, map, refl, sym, ap, ◌∙◌, subst, arith}
 use Rattle.std.specs.Prelude.{◌||◌, nat_eq, Contains, if◌then◌else◌}
 use Rattle.std.specs.List.{list_any, AllByRecursion}
@@ -15,19 +15,19 @@ use Rattle.isis_pdu.specs.declared.kind.Kind.TheVariants as kinds
 use Rattle.isis_pdu.specs.Spelling.{CanWrite}
 use Rattle.flooding.specs.Own.{tlvs_of_body}
 use Rattle.flooding.specs.Laws.{HasBodies}
-use Rattle.spb_content.specs.Local.{IsLocal, IsAttached, AreInOneVid, isid_number, isids_in, content_bytes}
+use Rattle.spb_content.specs.Local.{IsLocal, IsAttached, AreInOneVid, isid_number, isids_in}
 use Rattle.spb_content.specs.Laws.{HasFields, AreConfigured, Fits}
 use Rattle.spb_content.proofs.Members.{Has, all_has, weaker, has_map, map_has, contains_from_has}
 use Rattle.spb_content.proofs.Ascended.{ascending_ascends, Numbered}
 use Rattle.spb_content.proofs.Kept.{apart_ascends, length-within}
 use Rattle.spb_content.proofs.Written.{isid_attached}
-use Rattle.spb_content.proofs.Lengths.{own_fits}
+use Rattle.spb_content.proofs.Fitting.{fragments_fit}
 use Rattle.bridge_api.specs.declared.port.BridgePort.{BridgePort}
 use Rattle.bridge_api.specs.View.{BridgeView, is_port_up}
-use Rattle.bridge_api.specs.Own.{neighbour_in, neighbours_from, member_of, local_of, body_of, own_of}
+use Rattle.bridge_api.specs.Own.{neighbour_in, neighbours_from, member_of, local_of, own_of}
 use Rattle.bridge_api.specs.Config.{ArePairwise, different, IsAttachment, AgreesWith, vids_of}
 use Rattle.bridge_api.specs.Laws.{IsSoundPort, HasConfig, CanSay, SoundCanSay}
-use Rattle.bridge_api.proofs.OneNumber.{one_body}
+use Rattle.bridge_api.proofs.Bodies.{IsFragment, is_fragment}
 
 -- ---- lists
 
@@ -151,13 +151,11 @@ module _ (v : BridgeView) (config : HasConfig v) (few : length v.ports ≤ 32) (
   configured : AreConfigured (local_of v)
   configured = mapped _ (member_of v.id.system) v.attached (weaker _ _ v.attached (are_configured v.id.system v.vids) config.each_attachment)
 
-  fits : Fits (content_bytes (local_of v))
-  fits = own_fits (local_of v) is_local has_fields configured (omega (arith, fewer_neighbours 1 v.ports, few))
-
   pub has_body : HasBodies (own_of v)
-  unfolding body_of
   has_body number body is =
-      subst (λ (b : List ℕ). (1 ≤ length b) × CanWrite kinds.Lsp (tlvs_of_body b)) (one_body (body_of v) number body is)
+      let f : IsFragment v number body = is_fragment v number body is in
+      let fits : Fits f.tlvs = fragments_fit (local_of v) number f.tlvs is_local has_fields configured (omega (arith, fewer_neighbours 1 v.ports, few)) f.exists in
+      subst (λ (b : List ℕ). (1 ≤ length b) × CanWrite kinds.Lsp (tlvs_of_body b)) (sym f.is)
       (omega arith, record { whole = fits.whole; short = omega (arith, fits.short) })
 
   pub can_say : CanSay v

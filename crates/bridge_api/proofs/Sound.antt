@@ -1,5 +1,6 @@
 -- A configured bridge is sound, and stays so.
 use Rattle.std.proofs.Common.{arith}
+use Rattle.flooding.proofs.OwnNumbers.{some_number}
 use Rattle.bridge_api.specs.View.{BridgeView}
 use Rattle.bridge_api.specs.Own.{IsOwnLspCurrent}
 use Rattle.bridge_api.specs.Config.{configured}
@@ -11,11 +12,12 @@ use Rattle.bridge_api.proofs.Data.{Holds, has_lsps}
 use Rattle.bridge_api.proofs.SoundPorts.{ports_stay_sound, config_kept, configured_config, configured_sound, configured_has_no_carrier}
 use Rattle.bridge_api.proofs.DataSteps.{step_holds}
 use Rattle.bridge_api.proofs.Configured.{configured_holds, configured_is_saying}
+use Rattle.bridge_api.proofs.OwnPorts.{others_of}
 use Rattle.bridge_api.proofs.Learned.{configured_learned, steps_stay_learned}
 use Rattle.bridge_api.proofs.OwnLspSteps.{IsSaying, was_saying, steps_stay_saying}
 
 own_lsp_current_by : (v : BridgeView) → IsSaying v → Holds v → IsOwnLspCurrent v
-own_lsp_current_by v saying held = record { said = λ fresh. (saying fresh).0; alive = λ fresh. (saying fresh).1; text = held.apart }
+own_lsp_current_by v saying held = record { current = saying; text = held.text 0 (omega (arith, some_number)); others = others_of v held.text }
 
 pub configured_is_sound : ConfiguredIsSound
 configured_is_sound c whole = record {

@@ -33,6 +33,11 @@ live_body Absent body = None
 live_body (Live seq sum) body = Some body
 live_body (Dead seq) body = None
 
+-- the body of what is held under an id, if it is live
+abbrev pub body_if_live : Option Entry → Option (List ℕ)
+body_if_live None = None
+body_if_live (Some e) = live_body e.version e.body
+
 -- what is held under an id, with its body, if it is live and a system originates it
 abbrev pub live_lsp : LspId × Entry → Option (LspId × List ℕ)
 live_lsp held =

@@ -20,9 +20,9 @@ use Rattle.flooding.specs.declared.own.TheConstants.{OWN_NUMBERS}
 use Rattle.flooding.proofs.OwnNumbers.{some_number}
 use Rattle.spb_content.specs.declared.content.Content.{Content}
 use Rattle.spb_content.specs.Content.{content_in}
-use Rattle.bridge_api.specs.Tables.{is_numbered, live_body, live_lsp, live_lsps, body_among, tlvs_under, tlvs_among, said_among}
+use Rattle.bridge_api.specs.Tables.{is_numbered, live_body, body_if_live, live_lsp, live_lsps, body_among, tlvs_under, tlvs_among, said_among}
 use Rattle.bridge_api.proofs.GraphRead.{among_is_held}
-use Rattle.bridge_control.specs.Reading.{body_if_live, AreFirst}
+use Rattle.bridge_control.specs.Reading.{AreFirst}
 use Rattle.bridge_control.proofs.OwnTables.{read_more}
 
 -- ---- what stands at a place

@@ -1,5 +1,5 @@
 -- What a graph was read of.
-use Rattle.std.specs.Prelude.{◌≡◌, ℕ, List, Option, Some, None, map}
+use Rattle.std.specs.Prelude.{◌≡◌, ℕ, List, Option, map}
 use Rattle.std.specs.Option.{option_and_then}
 use Rattle.std.specs.List.{AllByRecursion}
 use Rattle.spb_types.specs.declared.address.LspId.{LspId}
@@ -10,17 +10,12 @@ use Rattle.lsdb.specs.Entry.{Entry}
 use Rattle.spb_content.specs.declared.content.Content.{Content}
 use Rattle.spb_content.specs.Building.{said_graph}
 use Rattle.spb_content.specs.Graph.{HasOwnPorts}
-use Rattle.bridge_api.specs.Tables.{live_body, live_lsp, read_at, contents_among}
+use Rattle.bridge_api.specs.Tables.{live_lsp, read_at, contents_among}
 use Rattle.bridge_control.specs.declared.shared_reading.LiveLsp.{LiveLsp}
 
 -- what is read at an entry that is held, among the LSPs that are read
 abbrev pub read_entry : List (LspId × List ℕ) → LspId × Entry → Option (SystemId × Content)
 read_entry lsps held = option_and_then (read_at lsps) (live_lsp held)
-
--- the body of what is held under an id, if it is live
-abbrev pub body_if_live : Option Entry → Option (List ℕ)
-body_if_live None = None
-body_if_live (Some e) = live_body e.version e.body
 
 -- all these LSPs have number 0
 abbrev pub AreFirst : List (LspId × List ℕ) → Type 0

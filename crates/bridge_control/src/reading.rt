@@ -81,7 +81,7 @@ fn held_near<'a>(db: &'a Database, near: usize, id: &LspId) -> Option<&'a Held>
 /// Puts the TLVs of an LSP that is held behind others, if it is live.
 fn put_live(tlvs: &mut Vec<u8>, held: Option<&Held>) -> Result<(), NoMemory>
     ensures { OnOk result (tlvs.new.items ≡ tlvs.old.items
-        ++ own.tlvs_of_body (unwrap_or (reading.body_if_live (option_map entry_of (option_copied held.entry))) [])) }
+        ++ own.tlvs_of_body (unwrap_or (tables.body_if_live (option_map entry_of (option_copied held.entry))) [])) }
 {
     if let Some(held) = held
         && matches!(held.version, Version::Live { .. })

@@ -10,6 +10,7 @@ use Rattle.spb_tlvs.specs.declared.entries.SnpEntry.{SnpEntry}
 use Rattle.isis_pdu.specs.Pdu.{LspValue, CsnpValue, PsnpValue}
 use Rattle.lsdb.specs.Entry.{Entry}
 use Rattle.lsdb.specs.Database.{Lsps}
+use Rattle.flooding.specs.Own.{own_numbers}
 use Rattle.flooding.specs.Sending.{lsp_in, lsps_to_send}
 use Rattle.snp_sync.specs.SnpEntries.{snp_entry_of, snp_entries_where, is_listed, has_ssn_at}
 use Rattle.snp_sync.specs.Chunks.{chunks_within, chunks, chunks_or_one}
@@ -18,9 +19,10 @@ use Rattle.snp_sync.specs.Sending.{csnp_for, psnp_for, end_of, csnp_chunks_from,
 use Rattle.bridge_api.specs.declared.port.BridgePort.{BridgePort}
 use Rattle.bridge_api.specs.View.{BridgeView, is_port_up}
 use Rattle.bridge_api.specs.Ticking.{later, readied, hello_frame, lsp_frame, csnp_frame, psnp_frame, hellos_at, summaries_at, lsps_at, requests_at, synced_at, sent_at, after_sending_at, sent_from, sent_in_tick}
-use Rattle.bridge_laws.specs.Few.{SecondsSendFew}
+use Rattle.bridge_api.specs.Step.{second, sent}
+use Rattle.bridge_laws.specs.Few.{SecondsSendFew, SecondsSendOwn}
 use Rattle.bridge_api.proofs.Changes.{readied_ports}
-use Rattle.bridge_laws.proofs.FewHeld.{len-each, few_readied}
+use Rattle.bridge_laws.proofs.FewHeld.{len-each, few_readied, more_readied, alone_few}
 
 -- ---- lists
 
@@ -96,11 +98,16 @@ ports_few k system q (port ∷ ports) db held =
     let rest = ports_few k system (q + 1) ports next (subst (λ (n : ℕ). n ≤ k) (sym (after_sending_few (is_port_up port) q db)) held) in
     omega (arith, length-append (sent_at system q port db) (sent_from system (q + 1) ports next), port_few system q port db k held, rest, mul-suc (3 * k + 2) (length ports))
 
-pub seconds_send_few : SecondsSendFew
+-- as many as are held when it sends
+second_few : (k : ℕ) (v : BridgeView) → len (readied v).database ≤ k → length (sent second v) ≤ (3 * k + 2) * length v.ports
 unfolding sent_in_tick
-seconds_send_few k v low few =
+second_few k v held =
     let u : BridgeView = readied v in
-    let bound : length (sent_from u.id.system 1 u.ports u.database) ≤ (3 * (k + 1) + 2) * length u.ports = ports_few (k + 1) u.id.system 1 u.ports u.database (few_readied k v low few).few in
     let ports : length u.ports ≡ length v.ports = ap length (readied_ports v) ∙ length-map v.ports later in
-    let each : 3 * (k + 1) + 2 ≡ 3 * k + 5 = omega arith in
-    subst (λ (n : ℕ). length (sent_from u.id.system 1 u.ports u.database) ≤ n * length v.ports) each (subst (λ (n : ℕ). length (sent_from u.id.system 1 u.ports u.database) ≤ (3 * (k + 1) + 2) * n) ports bound)
+    subst (λ (n : ℕ). length (sent_from u.id.system 1 u.ports u.database) ≤ (3 * k + 2) * n) ports (ports_few k u.id.system 1 u.ports u.database held)
+
+pub seconds_send_few : SecondsSendFew
+seconds_send_few v = second_few (len v.database + own_numbers) v (more_readied v)
+
+pub seconds_send_own : SecondsSendOwn
+seconds_send_own k v low few = second_few own_numbers v (alone_few (readied v).id.system (readied v).database (few_readied k v low few).alone)

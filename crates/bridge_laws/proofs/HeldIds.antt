@@ -14,12 +14,11 @@ use Rattle.lsdb.specs.Entry.{Entry, srm_set_at, flags_cleared_at}
 use Rattle.lsdb.specs.Database.{Lsps, version_at, each}
 use Rattle.lsdb.specs.Certificate.{Claim, IsClaimed}
 use Rattle.lsdb.proofs.LookupLemmas.{get-each, same_or_not}
-use Rattle.flooding.specs.Own.{last_number, own_id, own_number, IsOwnNumber, is_own_number}
+use Rattle.flooding.specs.Own.{last_number, own_numbers, own_number, IsOwnNumber, is_own_number}
 use Rattle.flooding.specs.Settling.{says}
 use Rattle.flooding.specs.Hearing.{Holding, claim_of, lsp_rule, snp_rule, hear_entry_of}
 use Rattle.flooding.proofs.Claimed.{others_stand}
-use Rattle.flooding.proofs.OwnNumbers.{some_number, own_is_number}
-use Rattle.bridge_api.proofs.OneNumber.{first_number}
+use Rattle.flooding.proofs.OwnNumbers.{own_is_number}
 use Rattle.flooding.proofs.Settled.{settling_leaves_others}
 use Rattle.snp_sync.specs.Hearing.{claims_in, hear_entries_of, ids_of, is_missed, flag_if, hear_csnp_of}
 use Rattle.adjacency.specs.declared.state.AdjacencyChange.{AdjacencyChange}
@@ -43,16 +42,10 @@ use Rattle.bridge_api.proofs.TimeLsps.{second_ages}
 
 -- ---- the own ids
 
--- with one number there is one own id
-pub own_is : (system : SystemId) (id : LspId) → IsOwnNumber system id → id ≡ own_id system
-own_is system id own = own.is ∙ ap (own_number system) (first_number own.number own.below)
-
-pub first_own : (system : SystemId) (id : LspId) → id ≡ own_id system → IsOwnNumber system id
-first_own system id is = record { number = 0; below = omega (arith, some_number); is = is }
-
--- while the first one is below the last number, all are
-pub own_below : (n : ℕ) (system : SystemId) (db : Lsps) → n < last_number → number_of (version_at db (own_id system)) ≤ n → (id : LspId) → IsOwnNumber system id → number_of (version_at db id) < last_number
-own_below n system db low first id own = subst (λ (x : LspId). number_of (version_at db x) < last_number) (sym (own_is system id own)) (omega (arith, first, low))
+-- where each own number is at n at most, and that is below the last one, each own id is
+pub own_below : (n : ℕ) (system : SystemId) (db : Lsps) → n < last_number → ((number : ℕ) → number < own_numbers → number_of (version_at db (own_number system number)) ≤ n) → (id : LspId) → IsOwnNumber system id
+    → number_of (version_at db id) < last_number
+own_below n system db low each id own = subst (λ (x : LspId). number_of (version_at db x) < last_number) (sym own.is) (omega (arith, each own.number own.below, low))
 
 -- ---- an id that no claim names
 
@@ -80,7 +73,7 @@ unnamed_stands up port (c ∷ claims) h id others =
 
 -- ---- an id that isn't held stays so
 
-abbrev StaysOut : LspId → Lsps → Lsps → Type 0
+abbrev pub StaysOut : LspId → Lsps → Lsps → Type 0
 StaysOut id old new = get old id ≡ None → get new id ≡ None
 
 each_stays_out : (f : LspId → Entry → Entry) (db : Lsps) (id : LspId) → StaysOut id db (each f db)
@@ -141,7 +134,7 @@ attached_out : (attached : List Attachment) (v : BridgeView) (id : LspId) → is
 unfolding with_attached
 attached_out attached v id apart out = originated_out (attached_to attached v) v.database id apart (λ none. none) out
 
-step_out : (input : Input) (v : BridgeView) (id : LspId) → is_own_number v.id.system id ≡ false → AreOthers id (claims_of input) → StaysOut id v.database (step input v).database
+pub step_out : (input : Input) (v : BridgeView) (id : LspId) → is_own_number v.id.system id ≡ false → AreOthers id (claims_of input) → StaysOut id v.database (step input v).database
 unfolding with_port_forgotten after_entry
 step_out second v id apart others out = second_out v id apart out
 step_out (frame q bytes) v id apart others out = frame_out_by q bytes v id apart others (frame_step v q bytes) out

@@ -7,6 +7,7 @@ pub mod OneHello
 pub mod Growing
 pub mod FewHeld
 pub mod FewSent
+pub mod Turns
 pub mod TimeOwn
 pub mod HeldIds
 pub mod Learning

@@ -1,5 +1,4 @@
--- How far the own LSP goes by what isn't a claim: it is originated once at most, and carrier that comes originates
--- nothing.
+-- How far own LSPs go by what isn't a claim: each is originated once at most, and carrier that comes originates nothing.
 use Rattle.std.proofs.Common.{◌≡◌, inl, inr, ◌≤◌, ◌<◌, ◌+◌, ◌-◌, ℕ, zero, suc, Bool, true, false, List, [], ◌∷◌, refl, sym, ap, ◌∙◌, subst, Option, Some, arith}
 use Rattle.std.specs.Prelude.{not, ◌&&◌, ◌==◌, slice_get, slice_set, if◌then◌else◌, ◌++◌}
 use Rattle.std.specs.FinMap.{get}
@@ -12,8 +11,7 @@ use Rattle.spb_tlvs.specs.declared.neighbours.Neighbour.{Neighbour}
 use Rattle.lsdb.specs.Version.{number_of}
 use Rattle.lsdb.specs.Entry.{Entry}
 use Rattle.lsdb.specs.Database.{Lsps, version_in, version_at, each}
-use Rattle.lsdb.proofs.LookupLemmas.{get-each}
-use Rattle.flooding.specs.Own.{own_id, last_number}
+use Rattle.flooding.specs.Own.{own_id, last_number, own_numbers, own_number, IsOwnNumber}
 use Rattle.flooding.specs.declared.own.Own.{Own}
 use Rattle.flooding.specs.Hearing.{Holding}
 use Rattle.flooding.specs.Settling.{Test, settled_by}
@@ -36,41 +34,50 @@ use Rattle.bridge_api.specs.Laws.{IsSoundView}
 use Rattle.bridge_laws.specs.Counting.{IsFar, is_claiming, gain_of, StepsOriginate, StepsDontSpend, ConfiguredIsFar, SomeIsFar}
 use Rattle.bridge_api.proofs.Certified.{steps_keep_bridge}
 use Rattle.bridge_api.proofs.Changes.{carrier_step, found}
-use Rattle.bridge_laws.proofs.FewHeld.{configured_holds_few}
-use Rattle.bridge_laws.proofs.Growing.{Grows, number_each, second_grows, hello_grows, carrier_grows, metric_grows, attached_grows}
-use Rattle.bridge_laws.proofs.HeldIds.{own_is, first_own, own_below}
+use Rattle.bridge_laws.proofs.FewHeld.{same_number, configured_holds_few}
+use Rattle.bridge_laws.proofs.Growing.{Grows, second_grows, hello_grows, carrier_grows, metric_grows, attached_grows}
+use Rattle.bridge_laws.proofs.HeldIds.{own_below}
 use Rattle.bridge_laws.proofs.Answering.{no_hello, frame_answered}
 use Rattle.bridge_api.proofs.Meeting.{small, small_whole}
 use Rattle.bridge_api.proofs.OwnLspSteps.{IsSaying, was_saying, moved_saying, saying_settles}
 use Rattle.bridge_api.proofs.Sound.{configured_is_sound}
 
--- of a system: its own LSP is at number n at most, and its sequence numbers aren't spent
-record Below (n : ℕ) (system : SystemId) (db : Lsps) (spent : Bool) : Type 0 where
-  number : number_of (version_at db (own_id system)) ≤ n
+-- of a system: each of its own LSPs is at most so many numbers further than here, and its sequence numbers aren't spent
+record Below (from : ℕ → ℕ) (n : ℕ) (system : SystemId) (db : Lsps) (spent : Bool) : Type 0 where
+  number : (number : ℕ) → number < own_numbers → number_of (version_at db (own_number system number)) ≤ from number + n
   fresh : spent ≡ false
 
-abbrev Counts : ℕ → BridgeView → Type 0
-Counts n v = Below n v.id.system v.database v.spent
+-- here they are below the last number
+abbrev AreLow : (ℕ → ℕ) → Type 0
+AreLow from = (number : ℕ) → number < own_numbers → from number < last_number
 
-one_more : (n : ℕ) (system : SystemId) (db : Lsps) (spent : Bool) → Below n system db spent → Below (n + 1) system db spent
-one_more n system db spent b = record { number = omega (arith, b.number); fresh = b.fresh }
+abbrev IsFirst : ℕ → Type 0
+IsFirst n = n ≡ 0
 
-below_each : (n : ℕ) (system : SystemId) (f : LspId → Entry → Entry) (db : Lsps) (spent : Bool) → ((x : LspId) (e : Entry) → number_of (f x e).version ≡ number_of e.version) → Below n system db spent → Below n system (each f db) spent
-below_each n system f db spent same b =
-    let id : LspId = own_id system in
-    let number : number_of (version_at (each f db) id) ≡ number_of (version_at db id) = ap (λ (o : Option Entry). number_of (version_in o)) (get-each f db id) ∙ number_each (f id) (get db id) (same id) in
-    record { number = subst (λ (k : ℕ). k ≤ n) (sym number) b.number; fresh = b.fresh }
+one_more : (from : ℕ → ℕ) (n : ℕ) (system : SystemId) (db : Lsps) (spent : Bool) → Below from n system db spent → Below from (n + 1) system db spent
+one_more from n system db spent b = record { number = λ number below. omega (arith, b.number number below); fresh = b.fresh }
+
+below_each : (from : ℕ → ℕ) (n : ℕ) (system : SystemId) (f : LspId → Entry → Entry) (db : Lsps) (spent : Bool) → ((x : LspId) (e : Entry) → number_of (f x e).version ≡ number_of e.version) → Below from n system db spent
+    → Below from n system (each f db) spent
+below_each from n system f db spent same b = record {
+  number = λ number below. subst (λ (k : ℕ). k ≤ from number + n) (sym (same_number f db (own_number system number) same)) (b.number number below);
+  fresh = b.fresh;
+}
 
 -- ---- own LSPs are brought up to date
 
-below_settled : (n : ℕ) (stands : Test) (up : PortSet) (h : Holding) → n < last_number → Below n h.own.system h.db h.own.spent → Below (n + 1) h.own.system (settled_by stands up h).db (settled_by stands up h).own.spent
-below_settled n stands up h low b = record {
-  number = omega (arith, settling_goes_one_further stands up h (own_id h.own.system), b.number);
-  fresh = ap (λ (own : Own). own.spent) (settling_doesnt_spend stands up h (own_below n h.own.system h.db low b.number)) ∙ b.fresh;
+own_low : (from : ℕ → ℕ) (n : ℕ) (system : SystemId) (db : Lsps) (spent : Bool) → AreLow from → IsFirst n → Below from n system db spent → (id : LspId) → IsOwnNumber system id → number_of (version_at db id) < last_number
+own_low from n system db spent low first b id own =
+    subst (λ (x : LspId). number_of (version_at db x) < last_number) (sym own.is) (omega (arith, b.number own.number own.below, low own.number own.below, first))
+
+below_settled : (from : ℕ → ℕ) → AreLow from → (n : ℕ) (stands : Test) (up : PortSet) (h : Holding) → IsFirst n → Below from n h.own.system h.db h.own.spent → Below from (n + 1) h.own.system (settled_by stands up h).db (settled_by stands up h).own.spent
+below_settled from low n stands up h first b = record {
+  number = λ number below. omega (arith, settling_goes_one_further stands up h (own_number h.own.system number), b.number number below);
+  fresh = ap (λ (own : Own). own.spent) (settling_doesnt_spend stands up h (own_low from n h.own.system h.db h.own.spent low first b)) ∙ b.fresh;
 }
 
-below_grows : Grows Below
-below_grows = record { more = one_more; stays = below_each; settles = below_settled }
+below_grows : (from : ℕ → ℕ) → AreLow from → Grows IsFirst (Below from)
+below_grows from low = record { more = one_more from; stays = below_each from; settles = below_settled from low }
 
 -- ---- carrier that comes
 
@@ -102,7 +109,7 @@ given_carrier_stands : (v : BridgeView) (q : ℕ) (port : BridgePort) → IsSayi
 given_carrier_stands v q port says is =
     let w : BridgeView = with_port_at q (given_carrier port) v in
     ap (λ (did : AdjacencyChange). changed_at did q (given_carrier port) v) (carrier_is_kept port.adjacency)
-    ∙ saying_settles w (moved_saying w.ports v.database v (neighbours_given_carrier 1 (q - 1) port v.ports is) (λ own. own) says)
+    ∙ saying_settles w (moved_saying w.ports v.database v (neighbours_given_carrier 1 (q - 1) port v.ports is) (λ number own. own) says)
 
 -- ---- the steps
 
@@ -110,45 +117,51 @@ a_hello : (b : Bool) → not b ≡ false → b ≡ true
 a_hello true is = refl
 a_hello false is = absurd (true≢false is)
 
-step_counts : (input : Input) (n : ℕ) (v : BridgeView) → IsSaying v → is_claiming input ≡ false → n < last_number → Counts n v → Counts (n + gain_of input) (step input v)
-unfolding with_port_forgotten after_entry
-step_counts second n v says other low b = second_grows Below below_grows n v low b
-step_counts (frame q bytes) n v says other low b =
-    let is : is_hello bytes ≡ true = a_hello (is_hello bytes) other in
-    subst (λ (hello : Bool). Counts (n + (if hello then 1 else 0)) (step (frame q bytes) v)) (sym is) (hello_grows Below below_grows n q bytes v is low b)
-step_counts (carrier q true) n v says other low b =
-    elim (carrier_step v q true) [
-      | inl e ↦ subst (Counts (n + 0)) (sym e) (record { number = omega (arith, b.number); fresh = b.fresh })
-      | inr g ↦
-          subst (Counts (n + 0)) (sym (g.after ∙ given_carrier_stands v q g.port says (found v.ports q g.port g.there).1))
-          (record { number = omega (arith, b.number); fresh = b.fresh })
-    ]
-step_counts (carrier q false) n v says other low b = carrier_grows Below below_grows n q false v low b
-step_counts (metric q m) n v says other low b = metric_grows Below below_grows n q m v low b
-step_counts (attach a) n v says other low b = attached_grows Below below_grows n (v.attached ++ a ∷ []) v low b
-step_counts (detach p) n v says other low b = attached_grows Below below_grows n (without_customer_port p v.attached) (with_port_forgotten p v) low b
-step_counts (customer p bytes) n v says other low b = record { number = omega (arith, b.number); fresh = b.fresh }
+module _ (from : ℕ → ℕ) (low : AreLow from) where
+  abbrev Counts : ℕ → BridgeView → Type 0
+  Counts n v = Below from n v.id.system v.database v.spent
+
+  step_counts : (input : Input) (v : BridgeView) → IsSaying v → is_claiming input ≡ false → Counts 0 v → Counts (0 + gain_of input) (step input v)
+  unfolding with_port_forgotten after_entry
+  step_counts second v says other b = second_grows IsFirst (Below from) (below_grows from low) 0 v refl b
+  step_counts (frame q bytes) v says other b =
+      let is : is_hello bytes ≡ true = a_hello (is_hello bytes) other in
+      subst (λ (hello : Bool). Counts (0 + (if hello then 1 else 0)) (step (frame q bytes) v)) (sym is) (hello_grows IsFirst (Below from) (below_grows from low) 0 q bytes v is refl b)
+  step_counts (carrier q true) v says other b =
+      elim (carrier_step v q true) [
+        | inl e ↦ subst (Counts (0 + 0)) (sym e) b
+        | inr g ↦ subst (Counts (0 + 0)) (sym (g.after ∙ given_carrier_stands v q g.port says (found v.ports q g.port g.there).1)) (record { number = b.number; fresh = b.fresh })
+      ]
+  step_counts (carrier q false) v says other b = carrier_grows IsFirst (Below from) (below_grows from low) 0 q false v refl b
+  step_counts (metric q m) v says other b = metric_grows IsFirst (Below from) (below_grows from low) 0 q m v refl b
+  step_counts (attach a) v says other b = attached_grows IsFirst (Below from) (below_grows from low) 0 (v.attached ++ a ∷ []) v refl b
+  step_counts (detach p) v says other b = attached_grows IsFirst (Below from) (below_grows from low) 0 (without_customer_port p v.attached) (with_port_forgotten p v) refl b
+  step_counts (customer p bytes) v says other b = record { number = b.number; fresh = b.fresh }
 
 -- ---- the laws
 
-far_counts : (input : Input) (v : BridgeView) → IsSoundView v → IsFar input v → is_claiming input ≡ false → Counts (number_of (version_in (own_entry v)) + gain_of input) (step input v)
+-- the numbers of its own LSPs
+abbrev numbers_in : BridgeView → ℕ → ℕ
+numbers_in v number = number_of (version_in (own_entry v number))
+
+far_counts : (input : Input) (v : BridgeView) → IsSoundView v → IsFar input v → is_claiming input ≡ false
+    → Below (numbers_in v) (0 + gain_of input) (step input v).id.system (step input v).database (step input v).spent
 far_counts input v was far other =
-    step_counts input (number_of (version_in (own_entry v))) v (was_saying v was) other (far.own (own_id v.id.system) (first_own v.id.system (own_id v.id.system) refl))
-    (record { number = omega arith; fresh = far.fresh })
+    step_counts (numbers_in v) (λ number below. far.own (own_number v.id.system number) (record { number = number; below = below; is = refl })) input v (was_saying v was) other
+    (record { number = λ number below. omega arith; fresh = far.fresh })
 
 pub steps_originate : StepsOriginate
 steps_originate input v id own was far other =
     let w : BridgeView = step input v in
-    let counts : Counts (number_of (version_in (own_entry v)) + gain_of input) w = far_counts input v was far other in
-    let here : number_of (version_at w.database (own_id v.id.system)) ≤ number_of (version_in (own_entry v)) + gain_of input =
-    subst (λ (system : SystemId). number_of (version_at w.database (own_id system)) ≤ number_of (version_in (own_entry v)) + gain_of input)
-    (ap (λ id. id.system) (steps_keep_bridge input v).id) counts.number in
-    subst (λ (x : LspId). number_of (version_at w.database x) ≤ number_of (version_at v.database x) + gain_of input) (sym (own_is v.id.system id own)) here
+    let here : number_of (version_at w.database (own_number v.id.system own.number)) ≤ number_of (version_in (own_entry v own.number)) + (0 + gain_of input) =
+    subst (λ (system : SystemId). number_of (version_at w.database (own_number system own.number)) ≤ number_of (version_in (own_entry v own.number)) + (0 + gain_of input))
+    (ap (λ id. id.system) (steps_keep_bridge input v).id) ((far_counts input v was far other).number own.number own.below) in
+    subst (λ (x : LspId). number_of (version_at w.database x) ≤ number_of (version_at v.database x) + gain_of input) (sym own.is) (omega (arith, here))
 
 dont_spend_by : (b : Bool) (input : Input) (v : BridgeView) → is_claiming input ≡ b → IsSoundView v → IsFar input v → (step input v).spent ≡ false
 dont_spend_by false input v other was far = (far_counts input v was far other).fresh
 dont_spend_by true second v claiming was far = absurd cc
-dont_spend_by true (frame q bytes) v claiming was far = (frame_answered q bytes v was far (no_hello (is_hello bytes) claiming)).fresh
+dont_spend_by true (frame q bytes) v claiming was far = (frame_answered q bytes v (own_id v.id.system) refl was far (no_hello (is_hello bytes) claiming)).fresh
 dont_spend_by true (carrier q on) v claiming was far = absurd cc
 dont_spend_by true (metric q m) v claiming was far = absurd cc
 dont_spend_by true (attach a) v claiming was far = absurd cc
@@ -161,8 +174,7 @@ steps_dont_spend input v was far = dont_spend_by (is_claiming input) input v ref
 pub configured_is_far : ConfiguredIsFar
 configured_is_far c input first low = record {
   fresh = (configured_holds_few c first).unspent;
-  own = λ id own. subst (λ (x : LspId). number_of (version_at (configured c).database x) < last_number) (sym (own_is (configured c).id.system id own))
-      (omega (arith, (configured_holds_few c first).number));
+  own = own_below 1 (configured c).id.system (configured c).database (omega arith) (configured_holds_few c first).number;
   claims = low;
 }
 

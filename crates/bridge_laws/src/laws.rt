@@ -4,9 +4,9 @@ ghost use Rattle.bridge_laws.specs.Advancing.{StepsAdvance};
 ghost use Rattle.bridge_laws.specs.Apart.{SentHasEntered, LeftHasEntered, ConfiguredIsPlaced, StepsKeepPlaces};
 ghost use Rattle.bridge_api.specs.Duties.{SecondsServe, SecondsLeaveNothingDue};
 ghost use Rattle.bridge_laws.specs.Brief.{SentIsBrief};
-ghost use Rattle.bridge_laws.specs.Few.{ConfiguredHoldsFew, StepsHoldFew, SecondsSendFew};
+ghost use Rattle.bridge_laws.specs.Few.{ConfiguredHoldsFew, StepsHoldFew, StepsBringFew, SecondsSendFew, SecondsSendOwn};
 ghost use Rattle.bridge_api.specs.Graph.{ReadsWhatIsHeld, ReadsEachOnce, ReadsItself, ReadsOthers, OwnPortsAreApart, SaysItsNeighbours, MembersAreSaid, CutSaysNothing, SomeGraphIsOwn};
-ghost use Rattle.bridge_api.specs.Time.{NeighboursAreKept, NeighboursAreLost, KeepsSomebody, SecondsAge, LspsLast, LspsExpire, SecondsStandStill, SecondsRenew, SecondsSpend, SpentStandsStill, OwnLspLasts, OwnLspIsRenewed, AloneStaysAlone, EveryNineHundred};
+ghost use Rattle.bridge_api.specs.Time.{NeighboursAreKept, NeighboursAreLost, KeepsSomebody, SecondsAge, LspsLast, LspsExpire, SecondsStandStill, SecondsRenew, SecondsStayUnspent, SecondsSpend, SpentStandsStill, OwnLspLasts, OwnLspIsRenewed, AloneStaysAlone, EveryNineHundred};
 ghost use Rattle.bridge_laws.specs.Dropping.{DroppedFramesCountOnce, HeardFramesCountEntries, EntriesWithoutWayCountOnce, OtherEntriesCountNothing, OtherStepsCountNothing, SomeDrops};
 ghost use Rattle.bridge_laws.specs.Counting.{StepsHoldIds, StepsLearn, StepsLearnVersions, StepsAnswer, StepsOriginate, StepsDontSpend, ConfiguredIsFar, SomeIsFar};
 
@@ -126,14 +126,17 @@ pub fn neighbours_come_up()
     control_again();
 }
 
-/// Where a bridge holds at most k LSPs, its own at number k at most, and hears hellos alone, it holds at most k + 1
-/// after a step, its own at number k + 1 at most; and in a second it sends at most 3 k + 5 frames for each port. That
-/// is said below the last number, of a bridge whose sequence numbers aren't spent. A configured bridge holds one LSP,
-/// at number 1.
+/// A bridge that holds its own LSPs alone, each at number k at most, and hears hellos alone, holds them alone after a
+/// step, each at number k + 1 at most; and in a second it sends at each port at most three frames for each own number,
+/// and two. That is said below the last number, of a bridge whose sequence numbers aren't spent, such as a configured
+/// one, with its own LSPs at number 1 at most. Whatever else a bridge holds, a step brings no LSP but its own, and in a
+/// second it sends at each port at most three frames for each LSP that it holds then, and two.
 pub fn few_are_held_and_sent()
     ensures configured { ConfiguredHoldsFew }
     ensures steps { StepsHoldFew }
+    ensures brings { StepsBringFew }
     ensures sent { SecondsSendFew }
+    ensures own { SecondsSendOwn }
 {}
 
 /// A neighbour is kept for as many seconds as its holding count says, in the state that it is in, whatever comes to the
@@ -162,6 +165,7 @@ pub fn silent_lsps_expire()
 pub fn own_lsps_are_renewed()
     ensures still { SecondsStandStill }
     ensures renew { SecondsRenew }
+    ensures unspent { SecondsStayUnspent }
     ensures spend { SecondsSpend }
     ensures spent { SpentStandsStill }
     ensures lasts { OwnLspLasts }

@@ -1,4 +1,4 @@
-use Rattle.bridge_laws.proofs.TimeOwn.{seconds_stand_still, seconds_renew, seconds_spend, spent_stands_still, own_lsp_lasts, own_lsp_is_renewed, alone_stays_alone, every_nine_hundred}
+use Rattle.bridge_laws.proofs.TimeOwn.{seconds_stand_still, seconds_renew, seconds_stay_unspent, seconds_spend, spent_stands_still, own_lsp_lasts, own_lsp_is_renewed, alone_stays_alone, every_nine_hundred}
 use Rattle.bridge_laws.proofs.laws.own_lsps_are_renewed.Goals as goal
 
 pub returns-clause-still : goal.returns-clause-still
@@ -6,6 +6,9 @@ returns-clause-still c = seconds_stand_still
 
 pub returns-clause-renew : goal.returns-clause-renew
 returns-clause-renew c = seconds_renew
+
+pub returns-clause-unspent : goal.returns-clause-unspent
+returns-clause-unspent c = seconds_stay_unspent
 
 pub returns-clause-spend : goal.returns-clause-spend
 returns-clause-spend c = seconds_spend
