@@ -69,8 +69,8 @@ tlvs_among lsps x (suc n) k = tlvs_under lsps (own_number x k) ++ tlvs_among lsp
 abbrev pub said_among : List (LspId × List ℕ) → SystemId → Content
 said_among lsps x = content_in (tlvs_among lsps x own_numbers 0)
 
--- what is read at an LSP: all that its system says, if the LSP has number 0. So nothing is read of a system without that
--- one (ISO/IEC 10589, 7.2.5)
+-- what is read at an LSP: all that its system says, if the LSP has number 0. So nothing is read of a system without
+-- that one (ISO/IEC 10589, 7.2.5)
 abbrev pub read_at : List (LspId × List ℕ) → LspId × List ℕ → Option (SystemId × Content)
 read_at lsps lsp = if lsp.0.number == 0 then Some (lsp.0.system, said_among lsps lsp.0.system) else None
 
