@@ -24,3 +24,4 @@ pub mod Moving
 pub mod Copies
 pub mod HeldAgain
 pub mod Compared
+pub mod Together
