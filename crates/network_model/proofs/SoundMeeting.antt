@@ -26,7 +26,6 @@ use Rattle.lsdb.specs.Certificate.{Claim, is_flagged, is_absent as is_none, is_a
 use Rattle.flooding.specs.Own.{own_numbers, own_id, flags_in, tlvs_of_body}
 use Rattle.flooding.specs.Hearing.{claim_of}
 use Rattle.flooding.specs.Entries.{IsSendable}
-use Rattle.flooding.proofs.OwnNumbers.{few_numbers}
 use Rattle.flooding.proofs.SendableEntries.{sent_is_held}
 use Rattle.spb_content.specs.declared.local.Local.{Local}
 use Rattle.spb_content.specs.Local.{content_bytes}
@@ -48,10 +47,11 @@ use Rattle.bridge_api.specs.Duties.{but_for_ssn}
 use Rattle.bridge_laws.specs.Few.{HoldsFew}
 use Rattle.bridge_api.proofs.Octets.{AreSmall, small_octets, octets_small, small_bytes, small_both}
 use Rattle.bridge_api.proofs.Changes.{readied_ports, readied_rest, tick_ports, when_true}
-use Rattle.bridge_api.proofs.Bodies.{first_text}
-use Rattle.bridge_api.proofs.GraphRead.{first_says, first_current}
+use Rattle.flooding.specs.Settling.{IsLspCurrent}
+use Rattle.flooding.proofs.OwnNumbers.{some_number, few_numbers}
+use Rattle.spb_content.specs.Fragments.{part_of}
+use Rattle.bridge_api.proofs.Bodies.{first_text, first_body}
 use Rattle.bridge_api.proofs.Hellos.{control_small}
-use Rattle.bridge_api.proofs.Saying.{sound_can_say}
 use Rattle.bridge_api.proofs.Spelled.{lsp_taken}
 use Rattle.bridge_api.proofs.DataSteps.{readied_holds}
 use Rattle.bridge_api.proofs.Meeting.{Starts, heard_down, hello_from, hears}
@@ -408,13 +408,17 @@ module _ (v w : BridgeView) (carriers : HaveFirstCarriers v w) where
       }
 
   says : (body_in (own_entry after 0) ≡ first_text after) × IsAlive (own_entry after 0)
-  says = first_current after after_sound unspent
+  says = subst (λ (b : Option (List ℕ)). IsLspCurrent b (own_entry after 0)) (first_body after) (after_sound.own.current unspent 0 (omega (arith, some_number)))
+
+  -- it has no services, so that number 0 says all
+  all_is_first : content_bytes (part_of 0 (local_of after)) ≡ content_bytes own_local
+  all_is_first = ap (λ (l : Local). content_bytes (part_of 0 l)) after_local
 
   ready_body : body_in (get (readied met).database id) ≡ 1 ∷ content_bytes own_local
   ready_body =
       sym (body_but (get (readied met).database id)) ∙ (ap body_in (sym originates) ∙ (body_but (get after.database id)
       ∙ (ap (λ (s : SystemId). body_in (get after.database (own_id s))) (sym after_starts.id)
-      ∙ (says.0 ∙ (ap (λ (tlvs : List ℕ). 1 ∷ tlvs) (first_says after (sound_can_say after after_sound).local) ∙ ap (λ (l : Local). 1 ∷ content_bytes l) after_local)))))
+      ∙ (says.0 ∙ ap (λ (tlvs : List ℕ). 1 ∷ tlvs) all_is_first))))
 
   ready_alive : IsAlive (but_for_ssn (get (readied met).database id))
   ready_alive = subst IsAlive originates (alive_but (get after.database id) (subst (λ (s : SystemId). IsAlive (get after.database (own_id s))) after_starts.id says.1))
