@@ -24,6 +24,7 @@ pub mod GraphRead
 pub mod ServingPorts
 pub mod Serving
 pub mod OwnPorts
+pub mod OwnRead
 pub mod OwnTables
 pub mod Time
 pub mod TimeLsps

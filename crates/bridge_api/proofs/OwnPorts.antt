@@ -3,15 +3,10 @@ use Rattle.std.proofs.Common.{◌≡◌, ◌≢◌, inl, inr, ◌≤◌, ◌<◌
 use Rattle.std.specs.Prelude.{◌&&◌, is_some, if◌then◌else◌}
 use Rattle.std.specs.Option.{option_map}
 use Rattle.std.specs.List.{AllByRecursion}
-use Rattle.std.proofs.lemmas.Bool.{and_parts}
-use Rattle.std.proofs.lemmas.Slice.Eq.{bytes_eq-Decides}
 use Rattle.spb_types.specs.declared.address.SystemId.{SystemId}
 use Rattle.spb_types.specs.declared.address.LspId.{LspId}
-use Rattle.spb_types.specs.Address.{same_system}
 use Rattle.spb_tlvs.specs.declared.neighbours.Neighbour.{Neighbour}
 use Rattle.spb_tlvs.specs.Piece.{pieces, pieces_within}
-use Rattle.lsdb.specs.declared.version.Version.{Version}
-use Rattle.lsdb.specs.declared.version.Version.TheVariants.{Absent, Live, Dead}
 use Rattle.lsdb.specs.Entry.{Entry}
 use Rattle.flooding.specs.declared.own.Own.{Own}
 use Rattle.flooding.specs.Own.{own_numbers, body_of_number, tlvs_of_body, body_in}
@@ -26,14 +21,11 @@ use Rattle.spb_content.specs.Local.{IsLocal, content_bytes}
 use Rattle.spb_content.proofs.Again.{read_again}
 use Rattle.spb_content.proofs.Parts.{is_part, part_fields}
 use Rattle.spb_content.proofs.Told.{others_say_services}
-use Rattle.spb_content.proofs.Members.{Has, contains_from_has}
 use Rattle.bridge_api.specs.declared.port.BridgePort.{BridgePort}
 use Rattle.bridge_api.specs.View.{BridgeView, is_port_up}
 use Rattle.bridge_api.specs.Own.{neighbour_in, neighbours_from, local_of, body_at, own_entry, IsOwnLspCurrent}
-use Rattle.bridge_api.specs.Graph.{live_content, content_in_entry, contents_of, OwnPortsAreApart}
 use Rattle.bridge_api.specs.Laws.{CanSay}
 use Rattle.bridge_api.proofs.Bodies.{IsFragment, is_fragment}
-use Rattle.bridge_api.proofs.GraphRead.{reads_what_is_held}
 
 -- a body that lists each neighbour at a port of its own
 abbrev pub HasApart : List ℕ → Type 0
@@ -152,30 +144,3 @@ pub others_of : (v : BridgeView) → ((number : ℕ) → number < own_numbers �
     → neighbours_in (tlvs_of_body (body_in (own_entry v number))) ≡ []
 others_of v texts zero some below = absurd (omega (arith, some))
 others_of v texts (suc number) some below = texts (suc number) below
-
--- ---- what the bridge reads of itself
-
-said_has : (x : SystemId) (cs : Contents) (c : Content) → said_of cs x ≡ Some c → Has (x, c) cs
-said_has x [] c is = absurd cc
-said_has x (d ∷ cs) c is = at (is_some d.1.inst && same_system d.0 x) refl is (said_has x cs c)
-  where
-    at : (b : Bool) → (is_some d.1.inst && same_system d.0 x) ≡ b → (if b then Some d.1 else said_of cs x) ≡ Some c → (said_of cs x ≡ Some c → Has (x, c) cs) → Has (x, c) (d ∷ cs)
-    at true t is rest =
-        let system = (bytes_eq-Decides d.0.mac.bytes x.mac.bytes).0 (and_parts (is_some d.1.inst) (same_system d.0 x) t).1 in
-        let content : d.1 ≡ c = cc in
-        inl (λ i. (record { mac = record { bytes = sym system i } }, sym content i))
-    at false t is rest = inr (rest is)
-
-live_is : (a : Version) (body : List ℕ) (c : Content) → live_content a body ≡ Some c → content_in (tlvs_of_body body) ≡ c
-live_is Absent body c is = absurd cc
-live_is (Live seq sum) body c is = cc
-live_is (Dead seq) body c is = absurd cc
-
-held_is : (o : Option Entry) (c : Content) → content_in_entry o ≡ Some c → content_in (tlvs_of_body (body_in o)) ≡ c
-held_is None c is = absurd cc
-held_is (Some e) c is = live_is e.version e.body c is
-
-pub own_ports_are_apart : OwnPortsAreApart
-own_ports_are_apart v was c is =
-    let held : content_in_entry (own_entry v 0) ≡ Some c = (reads_what_is_held v v.id.system c).0 (contains_from_has (v.id.system, c) (contents_of v) (said_has v.id.system (contents_of v) c is)) in
-    subst HasPorts (held_is (own_entry v 0) c held) was.own.text

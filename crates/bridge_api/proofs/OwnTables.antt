@@ -5,6 +5,7 @@ use Rattle.std.specs.List.{filter_map}
 use Rattle.std.specs.FinMap.{empty, entries, len-empty, len-entries}
 use Rattle.std.proofs.lemmas.Bool.{false≢true}
 use Rattle.spb_types.specs.declared.address.SystemId.{SystemId}
+use Rattle.spb_types.specs.declared.address.LspId.{LspId}
 use Rattle.spb_types.specs.declared.graph.Graph.{Graph}
 use Rattle.spb_types.specs.declared.graph.GraphBridge.{GraphBridge}
 use Rattle.spb_types.specs.Graph.{IsAmong, IsDistinct, IsBridge, IsValid, systems_of}
@@ -27,7 +28,8 @@ use Rattle.spb_content.proofs.Uncut.{IsSaid, all_chosen, said_graph_has_all_link
 use Rattle.spb_content.proofs.Whole.{is_bridge, bridges_are, are_bridges, members_are, are_members}
 use Rattle.bridge_api.specs.Drops.{no_drops}
 use Rattle.bridge_api.specs.View.{BridgeView}
-use Rattle.bridge_api.specs.Graph.{read_entry, contents_of, CutSaysNothing, SomeGraphIsOwn}
+use Rattle.bridge_api.specs.Tables.{live_lsp, contents_among}
+use Rattle.bridge_api.specs.Graph.{contents_of, CutSaysNothing, SomeGraphIsOwn}
 use Rattle.bridge_api.proofs.GraphRead.{reads_each_once}
 
 -- ---- the bridges of the graph of all that is said
@@ -111,7 +113,8 @@ no_items (x ∷ xs) none = absurd (omega (arith, none))
 none_read : (v : BridgeView) → v.database ≡ empty → contents_of v ≡ []
 none_read v is =
     let nothing : Lsps = empty in
-    ap (λ (db : Lsps). filter_map read_entry (entries db)) is ∙ ap (filter_map read_entry) (no_items (entries nothing) (sym (len-entries nothing) ∙ len-empty id_cmp Entry))
+    ap (λ (db : Lsps). contents_among (filter_map live_lsp (entries db))) is
+    ∙ ap (λ (es : List (LspId × Entry)). contents_among (filter_map live_lsp es)) (no_items (entries nothing) (sym (len-entries nothing) ∙ len-empty id_cmp Entry))
 
 no_graph : Graph
 no_graph = record { bridges = []; edges = []; members = [] }

@@ -1,5 +1,5 @@
 -- The graph that a bridge reads from the LSPs that it holds (RFC 6329, 15 and 16; IEEE 802.1aq, 28).
-use Rattle.std.specs.Prelude.{◌≡◌, ◌↔◌, ℕ, ◌≤◌, List, length, true, false, Option, Some, None, ◌==◌, Contains, ◌-◌, slice_get, find}
+use Rattle.std.specs.Prelude.{◌≡◌, ◌↔◌, ℕ, ◌≤◌, List, length, true, false, Option, Some, None, ◌==◌, Contains, ◌-◌, slice_get, find, if◌then◌else◌}
 use Rattle.std.specs.Option.{option_and_then}
 use Rattle.std.specs.FinMap.{get}
 use Rattle.spb_types.specs.declared.address.SystemId.{SystemId}
@@ -20,29 +20,26 @@ use Rattle.lsdb.specs.Database.{Lsps, version_at}
 use Rattle.lsdb.specs.Time.{is_live}
 use Rattle.flooding.specs.Own.{own_id}
 use Rattle.spb_content.specs.declared.content.Content.{Content}
-use Rattle.spb_content.specs.Content.{content_in}
-use Rattle.spb_content.specs.Local.{content_bytes, said_by}
+use Rattle.spb_content.specs.Local.{said_by}
 use Rattle.spb_content.specs.Graph.{systems_in, members_of, IsGraphOf, HasOwnPorts}
 use Rattle.fdb_build.specs.Tables.{unicast_rows}
 use Rattle.fdb_build.specs.Groups.{group_rows}
 use Rattle.bridge_api.specs.View.{BridgeView, metrics_of, is_up_at, neighbour_at}
-pub use Rattle.bridge_api.specs.Tables.{live_content, read_entry, contents_of, read_graph, own_tables}
+use Rattle.bridge_api.specs.Tables.{live_lsps, said_among}
+pub use Rattle.bridge_api.specs.Tables.{contents_of, read_graph, own_tables}
 use Rattle.bridge_api.specs.Own.{member_of, local_of}
 use Rattle.bridge_api.specs.Laws.{IsSoundView}
 
-abbrev pub content_in_entry : Option Entry → Option Content
-content_in_entry None = None
-content_in_entry (Some e) = live_content e.version e.body
-
--- what is held of a system says, if its LSP is live
+-- what the live LSPs that are held of a system say, put together, if the one of number 0 is live
 abbrev pub content_held : Lsps → SystemId → Option Content
-content_held db x = content_in_entry (get db (own_id x))
+content_held db x = if is_live (version_at db (own_id x)) then Some (said_among (live_lsps db) x) else None
 
 -- the graph of a bridge: what it reaches, and nothing where its own LSP isn't live
 abbrev pub IsOwnGraph : BridgeView → Graph → Type 0
 IsOwnGraph v g = IsGraphOf v.id.system (contents_of v) g
 
--- it reads of each system what the live LSP says that it holds of that system, and of no other
+-- it reads of each system what the live LSPs say that it holds of that system, if the one of number 0 is among them,
+-- and of no other
 abbrev pub ReadsWhatIsHeld : Type 0
 ReadsWhatIsHeld = (v : BridgeView) (x : SystemId) (c : Content)
     → Contains (contents_of v) (x, c) ↔ (content_held v.database x ≡ Some c)
@@ -54,7 +51,7 @@ ReadsEachOnce = (v : BridgeView) → IsDistinct (systems_in (contents_of v))
 -- of itself a sound bridge reads what it has to say, unless its sequence numbers are spent
 abbrev pub ReadsItself : Type 0
 ReadsItself = (v : BridgeView) → IsSoundView v → v.spent ≡ false
-    → Contains (contents_of v) (v.id.system, content_in (content_bytes (local_of v)))
+    → Contains (contents_of v) (v.id.system, said_by (local_of v))
 
 -- a bridge holds of the system of another what that one holds: the same versions, and the same bodies of what is live
 pub record HoldsAs (v w : BridgeView) : Type 0 where

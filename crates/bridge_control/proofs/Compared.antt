@@ -3,23 +3,11 @@ use Rattle.std.proofs.Common.{◌≡◌, ℕ, zero, suc, ◌+◌, ◌<◌, Bool,
 use Rattle.std.specs.Prelude.{◌==◌, ◌≤◌, if◌then◌else◌}
 use Rattle.std.specs.Option.{option_map, option_to_list}
 use Rattle.std.specs.List.{filter_map}
-use Rattle.std.specs.FinMap.{entries}
 use Rattle.std.proofs.lemmas.List.{append-nil, map-append, length-map, length-take-le}
 use Rattle.std.proofs.lemmas.List.Elements.{filter_map-append}
 use Rattle.std.proofs.lemmas.Option.{same_Some}
 use Rattle.std.proofs.lemmas.Bool.{and_parts}
-use Rattle.spb_types.specs.declared.address.LspId.{LspId}
-use Rattle.spb_types.specs.declared.address.SystemId.{SystemId}
 use Rattle.spb_types.specs.declared.service.VidPlan.{VidPlan}
-use Rattle.lsdb.specs.declared.version.Version.{Version}
-use Rattle.lsdb.specs.declared.version.Version.TheVariants.{Absent, Live, Dead}
-use Rattle.lsdb.specs.Entry.{Entry}
-use Rattle.lsdb.specs.Database.{Lsps}
-use Rattle.flooding.specs.Own.{is_originated}
-use Rattle.spb_content.specs.declared.content.Content.{Content}
-use Rattle.bridge_api.specs.Tables.{live_content, read_entry}
-use Rattle.bridge_control.specs.declared.shared_reading.LiveLsp.{LiveLsp}
-use Rattle.bridge_control.specs.Reading.{live_body, live_lsp, live_lsps, copied, said_in, content_of}
 use Rattle.bridge_control.proofs.OwnTables.{read_more, read_one}
 
 -- one LSP more is what its entry is read as
@@ -80,40 +68,6 @@ next_same f g es xs k n e y is reads was same =
 pub as_many : {X Y Z : Type 0} (f : X → Option Y) (g : Z → Y) (es : List X) (xs : List Z) (n : ℕ) → n ≤ length xs → map g (take n xs) ≡ filter_map f es → filter_map f es ≡ map g xs → n ≡ length xs
 as_many f g es xs n few was same =
     omega (arith, few, ap length (was ∙ same), length-map (take n xs) g, length-map xs g, length-take-le n xs few)
-
--- ---- what live LSPs say
-
-abbrev said_of : SystemId × List ℕ → SystemId × Content
-said_of lsp = said_in lsp.0 lsp.1
-
-say : (held : LspId × Entry) → read_entry held ≡ option_map said_of (live_lsp held)
-say held = by (is_originated held.0.system held.0) held.1.version
-  where
-    by : (b : Bool) (version : Version) → (if b then option_map (λ c. (held.0.system, c)) (live_content version held.1.body) else None) ≡ option_map said_of (if b then live_body version held.0.system held.1.body else None)
-    by false version = refl
-    by true Absent = refl
-    by true (Live seq sum) = refl
-    by true (Dead seq) = refl
-
-listed : (o : Option (SystemId × List ℕ)) → option_to_list (option_map said_of o) ≡ map said_of (option_to_list o)
-listed None = refl
-listed (Some lsp) = refl
-
-all_say : (es : List (LspId × Entry)) → filter_map read_entry es ≡ map said_of (filter_map live_lsp es)
-all_say [] = refl
-all_say (e ∷ es) =
-    first_read read_entry e es
-    ∙ ((λ i. option_to_list (say e i) ++ all_say es i)
-    ∙ (ap (λ ys. ys ++ map said_of (filter_map live_lsp es)) (listed (live_lsp e))
-    ∙ (sym (map-append said_of (option_to_list (live_lsp e)) (filter_map live_lsp es)) ∙ ap (map said_of) (sym (first_read live_lsp e es)))))
-
-copies_say : (lsps : List LiveLsp) → map content_of lsps ≡ map said_of (map copied lsps)
-copies_say [] = refl
-copies_say (lsp ∷ lsps) = ap (λ l. content_of lsp ∷ l) (copies_say lsps)
-
--- copies of the live LSPs say what is read of what is held
-pub copies_are_read : (db : Lsps) (lsps : List LiveLsp) → map copied lsps ≡ live_lsps db → map content_of lsps ≡ filter_map read_entry (entries db)
-copies_are_read db lsps same = copies_say lsps ∙ (ap (map said_of) same ∙ sym (all_say (entries db)))
 
 -- ---- base VIDs that compare as equal are the same
 

@@ -1,4 +1,5 @@
 pub mod Loops
+pub mod Renewing
 pub mod Picked
 pub mod Wire
 pub mod Following
@@ -24,3 +25,4 @@ pub mod Moving
 pub mod Copies
 pub mod HeldAgain
 pub mod Compared
+pub mod Together

@@ -27,7 +27,7 @@ use Rattle.bridge_api.specs.Graph.{planned_for, own_path}
 use Rattle.bridge_api.specs.Laws.{HasConfig, IsSoundView}
 use Rattle.bridge_api.proofs.Saying.{vids_are_apart}
 use Rattle.bridge_api.proofs.GraphRead.{reads_each_once}
-use Rattle.bridge_api.proofs.OwnPorts.{own_ports_are_apart}
+use Rattle.bridge_api.proofs.OwnRead.{own_ports_are_apart}
 use Rattle.bridge_control.specs.declared.machine.Machine.{Machine}
 use Rattle.bridge_control.specs.Machine.{view_of}
 use Rattle.bridge_control.specs.Kept.{AreOwn}

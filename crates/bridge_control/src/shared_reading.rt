@@ -1,8 +1,6 @@
 //! What bridges that hold the same LSPs can share: the graph that they read, made ready for their tables.
 ghost use Rattle.std.specs.Prelude.{◌≡◌, ◌≤◌, ◌++◌, map, true, false, None, Some, Decides, IfOk, OnOk, IsTrue};
-ghost use Rattle.std.specs.List.{filter_map};
 ghost use Rattle.std.specs.Option.{option_to_list};
-ghost use Rattle.std.specs.FinMap.{entries};
 ghost use Rattle.spb_types.specs.declared.limits.TheConstants.{GREATEST_ECT};
 ghost use Rattle.spb_types.specs.Ect.{mask_of};
 ghost use Rattle.spb_types.specs.Graph.{IsValidFor};
@@ -11,26 +9,27 @@ ghost use Rattle.lsdb.specs.Database.{keyed};
 ghost use Rattle.fdb_build.specs.Groups.{group_rows};
 ghost use Rattle.fdb_build.specs.Tables.{unicast_rows};
 ghost use Rattle.bridge_api.specs.Graph as read;
+ghost use Rattle.bridge_api.specs.Tables as tables;
 ghost use Rattle.bridge_api.specs.Laws.{IsSoundView};
 ghost use Rattle.bridge_control.specs.Machine.{view_of};
 ghost use Rattle.bridge_control.specs.Reading as reading;
 
 use crate::machine::Machine;
-use crate::reading::{contents, is_originated};
+use crate::reading::{contents, is_read};
 use crate::shared::SharedReading;
 use ect_trees::Roads;
 use fdb_build::Fabric;
-use lsdb::{Database, Held, Version};
+use lsdb::{Database, Held};
 use spb_content::said_graph_of;
 use spb_types::limits::GREATEST_ECT;
-use spb_types::{NoMemory, Path, SystemId, Tables, VidPlan};
+use spb_types::{LspId, NoMemory, Path, SystemId, Tables, VidPlan};
 use std::alloc::Global;
 use std::marker::Model;
 
 /// A live LSP that its system originates.
 #[derive(Drop)]
 pub struct LiveLsp {
-    pub system: SystemId,
+    pub id: LspId,
     pub body: Vec<u8>,
 }
 
@@ -94,25 +93,18 @@ impl Reading {
     }
 }
 
-/// Whether an LSP that is held is live, and is one that its system originates. Nothing else is read.
-fn is_read(held: &Held) -> bool
-    ensures read { result ≡ true → reading.live_lsp (keyed held.now) ≡ Some (held.now.id.system, held.now.body) }
-    ensures other { result ≡ false → reading.live_lsp (keyed held.now) ≡ None }
-{
-    is_originated(&held.id) && matches!(held.version, Version::Live { .. })
-}
-
 /// Whether an LSP that is held is read, and is this one.
 fn is_same(held: &Held, lsp: &LiveLsp) -> bool
-    ensures { Decides result (reading.live_lsp (keyed held.now) ≡ Some (reading.copied lsp.now)) }
+    ensures { Decides result (tables.live_lsp (keyed held.now) ≡ Some (reading.copied lsp.now)) }
 {
-    is_read(held) && held.id.system == lsp.system && held.body.as_slice() == lsp.body.as_slice()
+    is_read(held) && held.id == lsp.id && held.body.as_slice() == lsp.body.as_slice()
 }
 
 /// Whether just these LSPs are read of what is held. They are compared, and not read.
 fn are_held(db: &Database, lsps: &[LiveLsp]) -> bool
-    ensures held { Decides result (reading.live_lsps db.now ≡ map reading.copied lsps.now) }
-    ensures read { IsTrue result → filter_map read.read_entry (entries db.now) ≡ map reading.content_of lsps.now }
+    ensures held { Decides result (tables.live_lsps db.now ≡ map reading.copied lsps.now) }
+    ensures read { IsTrue result
+        → tables.contents_among (tables.live_lsps db.now) ≡ tables.contents_among (map reading.copied lsps.now) }
 {
     let mut next = 0;
     for place in 0..db.len() {
@@ -139,11 +131,11 @@ fn are_same(vids: &[VidPlan], others: &[VidPlan]) -> bool
 /// Puts a copy of an LSP that is held behind the others, if it is one that is read.
 fn push_lsp(alloc: Global, lsps: &mut Vec<LiveLsp>, held: &Held) -> Result<(), NoMemory>
     ensures { OnOk result (map reading.copied lsps.new.items
-        ≡ map reading.copied lsps.old.items ++ option_to_list (reading.live_lsp (keyed held.now))) }
+        ≡ map reading.copied lsps.old.items ++ option_to_list (tables.live_lsp (keyed held.now))) }
 {
     if is_read(held) {
         lsps.push(LiveLsp {
-            system: held.id.system,
+            id: held.id,
             body: Vec::from_slice(alloc, held.body.as_slice())?,
         })?;
     }
@@ -152,9 +144,9 @@ fn push_lsp(alloc: Global, lsps: &mut Vec<LiveLsp>, held: &Held) -> Result<(), N
 
 /// Copies of the LSPs that are read, in order of their ids.
 fn read_lsps(alloc: Global, db: &Database) -> Result<Vec<LiveLsp>, NoMemory>
-    ensures held { IfOk result (λ lsps. map reading.copied lsps.items ≡ reading.live_lsps db.now) }
-    ensures read { IfOk result (λ lsps.
-        map reading.content_of lsps.items ≡ filter_map read.read_entry (entries db.now)) }
+    ensures held { IfOk result (λ lsps. map reading.copied lsps.items ≡ tables.live_lsps db.now) }
+    ensures read { IfOk result (λ lsps. tables.contents_among (map reading.copied lsps.items)
+        ≡ tables.contents_among (tables.live_lsps db.now)) }
 {
     let mut lsps = Vec::new(alloc);
     for place in 0..db.len() {

@@ -5,7 +5,8 @@ use Rattle.std.specs.FinMap.{entries}
 use Rattle.spb_types.specs.declared.limits.TheConstants.{MOST_GRAPH_BRIDGES}
 use Rattle.flooding.proofs.OwnNumbers.{few_numbers}
 use Rattle.bridge_api.specs.View.{BridgeView}
-use Rattle.bridge_api.specs.Graph.{contents_of, read_entry}
+use Rattle.bridge_api.specs.Tables.{live_lsp, live_lsps, read_at}
+use Rattle.bridge_api.specs.Graph.{contents_of}
 use Rattle.network_model.specs.State.{State}
 use Rattle.network_model.specs.Sound.{IsSoundState}
 use Rattle.network_model.specs.Counted.{IsCounted}
@@ -25,9 +26,11 @@ read_few f (x ∷ xs) = at (f x) (read_few f xs)
 
 contents_few : (s : State) (i : ℕ) (v : BridgeView) → IsSoundState s → IsCounted s → slice_get s.views i ≡ Some v → length (contents_of v) ≤ MOST_GRAPH_BRIDGES
 contents_few s i v sound counted at =
-    let read = read_few read_entry (entries v.database) in
+    let lsps = live_lsps v.database in
+    let read = read_few (read_at lsps) lsps in
+    let live = read_few live_lsp (entries v.database) in
     let held = few_held s i v sound counted at in
-    omega (arith, read, held, few_numbers)
+    omega (arith, read, live, held, few_numbers)
 
 all_views : (P : BridgeView → Type 0) (views : List BridgeView) → ((i : ℕ) (v : BridgeView) → slice_get views i ≡ Some v → P v) → AllByRecursion P views
 all_views P [] each = tt

@@ -1,5 +1,4 @@
 -- The laws of a step of a bridge, on which what is sound of a network rests.
-use Rattle.std.proofs.Common.{◌≡◌}
 use Rattle.itag_frames.proofs.ControlLaws.{control_again}
 use Rattle.bridge_api.specs.Laws.{ConfiguredIsSound, ConfiguredHasNoCarrier, StepsStaySound, StepsKeepBridge, StepsKeepCarrier, StepsKeepNeighbours, SentIsSound, OneHello, HellosAreHeard, UpPortsAreUp, StepsCarryDatabase}
 use Rattle.bridge_laws.specs.Advancing.{StepsAdvance}
@@ -11,9 +10,6 @@ use Rattle.bridge_laws.proofs.Answering as answering
 use Rattle.bridge_laws.proofs.Brief as brief
 use Rattle.bridge_api.proofs.Certified as certified
 use Rattle.bridge_api.proofs.Carriers as carriers
-use Rattle.bridge_api.specs.declared.config.BridgeConfig.{BridgeConfig}
-use Rattle.bridge_api.specs.Config.{first_life, configured}
-use Rattle.bridge_api.proofs.Configured as begun
 use Rattle.bridge_laws.proofs.Frames as frames
 use Rattle.bridge_laws.proofs.HeldIds as ids
 use Rattle.bridge_api.proofs.Hellos as hellos
@@ -88,6 +84,3 @@ steps_dont_spend = originating.steps_dont_spend
 
 pub configured_is_far : ConfiguredIsFar
 configured_is_far = originating.configured_is_far
-
-pub configured_holds_own : (c : BridgeConfig) → c.last ≡ first_life → begun.HoldsOwnAlone c (configured c)
-configured_holds_own = begun.configured_holds_own

@@ -16,14 +16,12 @@ use Rattle.lsdb.specs.declared.version.Version.TheVariants.{Absent, Live}
 use Rattle.lsdb.specs.Entry.{Entry}
 use Rattle.lsdb.specs.Version.{number_of}
 use Rattle.lsdb.specs.Database.{version_at, version_in}
-use Rattle.lsdb.proofs.LookupLemmas.{same_or_not}
-use Rattle.flooding.proofs.OwnNumbers.{some_number}
-use Rattle.flooding.specs.Own.{last_number, own_id, IsOwnNumber, body_in}
+use Rattle.flooding.proofs.OwnNumbers.{own_is_number, not_own}
+use Rattle.flooding.specs.Own.{last_number, own_numbers, own_number, IsOwnNumber, is_own_number, body_in}
 use Rattle.flooding.specs.Advancing.{stays}
 use Rattle.bridge_api.specs.View.{BridgeView}
 use Rattle.bridge_api.specs.Parsing.{parsed}
 use Rattle.bridge_api.specs.Step.{metric}
-use Rattle.bridge_laws.proofs.HeldIds.{own_is}
 use Rattle.spb_world.specs.declared.declaration.DeclaredBridge.{DeclaredBridge}
 use Rattle.spb_world.specs.declared.declaration.DeclaredLink.{DeclaredLink}
 use Rattle.spb_world.specs.World.{Bridges, things_of, graph_bridges, IsLink, AreDistinct}
@@ -76,12 +74,12 @@ hellos_none (l ∷ links) (x ∷ xs) i away =
     let more = hellos_none links xs i (λ k m at. away (suc k) m at) in
     rw (ne_eqb l.a.bridge i here.0, ne_eqb l.b.bridge i here.1) (omega (arith, more))
 
--- the new bridge: declared as it is, with numbers of its own, and of these the first alone
+-- the new bridge: declared as it is, with each of its own LSPs at number 1 at most, and no other
 pub record IsFirstOwn (b : DeclaredBridge) (v : BridgeView) : Type 0 where
   pub id : v.id ≡ b.bridge.id
   pub fresh : v.spent ≡ false
-  pub own : number_of (version_at v.database (own_id v.id.system)) ≤ 1
-  pub alone : (id : LspId) → id ≢ own_id v.id.system → get v.database id ≡ None
+  pub own : (number : ℕ) → number < own_numbers → number_of (version_at v.database (own_number v.id.system number)) ≤ 1
+  pub alone : (id : LspId) → is_own_number v.id.system id ≡ false → get v.database id ≡ None
 
 module _ (s : State) (n : ℕ) (rack : List Spare) (ticks : List ℕ) (name : List ℕ) (b : DeclaredBridge) (v : BridgeView) (sound : IsSoundState s) (counted : IsCountedBy n s) (new : IsNewBridge s.world b) (first : IsFirstOwn b v) where
   abbrev bridges : Bridges
@@ -108,21 +106,21 @@ module _ (s : State) (n : ℕ) (rack : List Spare) (ticks : List ℕ) (name : Li
   none_had id own owner = other_system owner.place owner.bridge owner.there (sym (system_is owner.bridge.bridge.id.system id owner.own) ∙ system_is v.id.system id own)
 
   held_new : (id : LspId) (e : Entry) → get v.database id ≡ Some e → IsOwnOf bridges id
-  held_new id e held =
-      elim (same_or_not id (own_id v.id.system)) [
-        | inl same ↦
-            record {
-              place = length s.world.bridges;
-              bridge = b;
-              there = things_new s.world.bridges name b;
-              own = record { number = 0; below = omega (arith, some_number); is = same ∙ ap (λ (x : BridgeId). own_id x.system) first.id };
-            }
-        | inr other ↦ let none : get v.database id ≡ None = first.alone id other in absurd cc
-      ]
+  held_new id e held = by (is_own_number v.id.system id) refl
+    where
+      by : (own : Bool) → is_own_number v.id.system id ≡ own → IsOwnOf bridges id
+      by true is =
+          record {
+            place = length s.world.bridges;
+            bridge = b;
+            there = things_new s.world.bridges name b;
+            own = subst (λ (x : BridgeId). IsOwnNumber x.system id) first.id (own_is_number v.id.system id is);
+          }
+      by false is = let wrong : None ≡ Some e = sym (first.alone id is) ∙ held in absurd cc
 
   -- of the ids of others it holds nothing
   none_new : (id : LspId) → id.system ≢ v.id.system → get v.database id ≡ None
-  none_new id other = first.alone id (λ e. other (ap (λ (y : LspId). y.system) e))
+  none_new id other = first.alone id (not_own v.id.system id other)
 
   -- no bridge from before originates what the new one does
   ids_apart : (i : ℕ) (u : BridgeView) (id : LspId) → slice_get s.views i ≡ Some u → IsOwnNumber u.id.system id → id.system ≢ v.id.system
@@ -197,8 +195,8 @@ module _ (s : State) (n : ℕ) (rack : List Spare) (ticks : List ℕ) (name : Li
   own_copies id a own copy =
       elim (copy_new id a own copy) [
         | inl is ↦
-            let same : a ≡ version_at v.database (own_id v.id.system) = is ∙ ap (λ (x : LspId). version_at v.database x) (own_is v.id.system id own) in
-            let number = ap number_of same in omega (arith, number, first.own)
+            let same : a ≡ version_at v.database (own_number v.id.system own.number) = is ∙ ap (λ (x : LspId). version_at v.database x) own.is in
+            let number = ap number_of same in omega (arith, number, first.own own.number own.below)
         | inr none ↦ let number = ap number_of none in omega (arith, number)
       ]
 

@@ -1,5 +1,5 @@
 -- What follows of a network whose numbers are within what is allowed.
-use Rattle.std.proofs.Common.{◌≡◌, ◌≤◌, ◌<◌, ◌*◌, ℕ, true, false, not, List, [], ◌∷◌, length, map, refl, sym, ap, ◌∙◌, subst, Option, Some, None, slice_get, arith}
+use Rattle.std.proofs.Common.{◌≡◌, ◌≤◌, ◌<◌, ◌*◌, ℕ, false, not, length, refl, sym, ap, subst, Option, Some, None, slice_get, arith}
 use Rattle.std.specs.FinMap.{get, entries, entries_sorted, len-entries}
 use Rattle.spb_types.specs.declared.address.LspId.{LspId}
 use Rattle.spb_types.specs.declared.link.Dir.{Dir}

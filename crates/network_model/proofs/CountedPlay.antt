@@ -1,5 +1,5 @@
 -- Every event and command keeps the numbers within their allowance.
-use Rattle.std.proofs.Common.{◌≡◌, ◌≤◌, ◌<◌, ◌+◌, ◌*◌, ℕ, List, [], ◌∷◌, ◌++◌, length, refl, sym, ap, ◌∙◌, Option, Some, None, arith}
+use Rattle.std.proofs.Common.{◌≡◌, ◌≤◌, ◌<◌, ◌+◌, ◌*◌, ℕ, List, [], ◌∷◌, ◌++◌, length, refl, ap, ◌∙◌, Option, Some, None, arith}
 use Rattle.std.proofs.Math.Nat.{min-eq_left}
 use Rattle.spb_types.specs.declared.address.Mac.{Mac}
 use Rattle.spb_types.specs.declared.service.SourceId.{SourceId}
@@ -8,11 +8,11 @@ use Rattle.spb_types.specs.declared.link.Dir.{Dir}
 use Rattle.spb_types.specs.declared.link.Side.{Side}
 use Rattle.scenario.specs.declared.command.Command.{Command}
 use Rattle.scenario.specs.declared.command.Command.TheVariants as command
-use Rattle.flooding.specs.Own.{last_number, own_id}
+use Rattle.flooding.specs.Own.{last_number}
 use Rattle.bridge_api.specs.declared.config.BridgeConfig.{BridgeConfig}
 use Rattle.bridge_api.specs.Config.{configured}
+use Rattle.bridge_laws.specs.Few.{HoldsFew}
 use Rattle.bridge_laws.proofs.FewHeld.{configured_holds_few}
-use Rattle.spb_types.specs.declared.address.BridgeId.{BridgeId}
 use Rattle.network_model.specs.declared.answer.Out.{Out}
 use Rattle.network_model.specs.declared.kind_rule.KindRule.{KindRule}
 use Rattle.spb_world.specs.declared.declaration.DeclaredBridge.{DeclaredBridge}
@@ -31,7 +31,6 @@ use Rattle.network_model.specs.Sound.{IsSoundState, opening}
 use Rattle.network_model.specs.SoundLaws.{AreAccepted, opening_of}
 use Rattle.network_model.specs.Counted.{IsCountedBy, IsCounted, allowance_of, most_commands}
 use Rattle.network_model.specs.CountedLaws.{EventsKeepCounted, CommandsKeepCounted, NetworksAreCounted}
-use Rattle.network_model.proofs.BridgeLaws.{configured_holds_own}
 use Rattle.spb_world.proofs.RefusalLemmas.{metric_refusal_none, bridge_refusal_none, link_refusal_none}
 use Rattle.network_model.proofs.StateRefusals.{round_refusal_none}
 use Rattle.network_model.proofs.SoundNames.{first_none, distinct_link}
@@ -100,12 +99,8 @@ isid_counted n s isid vid counted = record {
 first_own : (w : World) (b : DeclaredBridge) → IsFirstOwn b (configured (config_of w b))
 first_own w b =
     let c : BridgeConfig = config_of w b in
-    record {
-      id = (configured_still c).id;
-      fresh = (configured_holds_few c refl).unspent;
-      own = (configured_holds_few c refl).number;
-      alone = λ id other. (configured_holds_own c refl).alone id (λ e. other (e ∙ ap (λ (x : BridgeId). own_id x.system) (sym (configured_still c).id)));
-    }
+    let few : HoldsFew 1 (configured c) = configured_holds_few c refl in
+    record { id = (configured_still c).id; fresh = few.unspent; own = few.number; alone = few.alone }
 
 boxed_counted : (s : State) (n : ℕ) (name : List ℕ) (priority : ℕ) (system : Mac) (source : SourceId) (ports : ℕ) (o : Option ℕ) → IsSoundState s → IsCountedBy n s → bridge_refusal s.world name priority system source ports ≡ None → IsCountedBy (n + 2) (boxed s name (bridge_of priority system source ports) o)
 boxed_counted s n name priority system source ports None sound counted none = counted_more n (n + 2) s (omega arith) counted

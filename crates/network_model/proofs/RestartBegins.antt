@@ -19,9 +19,10 @@ use Rattle.flooding.specs.Entries.{IsNumbered}
 use Rattle.flooding.proofs.OwnNumbers.{some_number}
 use Rattle.bridge_api.specs.declared.config.BridgeConfig.{BridgeConfig}
 use Rattle.bridge_api.specs.View.{BridgeView}
-use Rattle.bridge_api.specs.Own.{body_of, own_of, holding_of}
+use Rattle.bridge_api.specs.Own.{own_of, holding_of}
 use Rattle.bridge_api.specs.Config.{IsWhole, bare, configured}
 use Rattle.bridge_api.specs.Laws.{IsSoundView}
+use Rattle.bridge_api.proofs.Bodies.{first_text, first_body}
 use Rattle.bridge_api.proofs.Configured.{configured_starts}
 use Rattle.network_model.specs.Restarting.{numbers_from}
 
@@ -136,8 +137,8 @@ module _ (v : BridgeView) (c : BridgeConfig) (whole : IsWhole c) (last : c.last 
   pub first_further : number_at v 0 < last_number → number_of (version_at new.database (own_number v.id.system 0)) ≡ number_at v 0 + 1
   first_further low =
       let id : LspId = own_number v.id.system 0 in
-      ap (λ (o : Option Entry). number_of (version_in o)) (begun 0 (omega (arith, some_number)))
-      ∙ ap (λ (b : Bool). number_of (version_in (if b then started_by id (number_at v 0) (Some (body_of (bare c))) else Some (dead_at no_ports (number_at v 0))))) (lt-ltb (number_at v 0) last_number low)
+      ap (λ (o : Option Entry). number_of (version_in o)) (begun 0 (omega (arith, some_number)) ∙ ap (started_as id (number_at v 0)) (first_body (bare c)))
+      ∙ ap (λ (b : Bool). number_of (version_in (if b then started_by id (number_at v 0) (Some (first_text (bare c))) else Some (dead_at no_ports (number_at v 0))))) (lt-ltb (number_at v 0) last_number low)
 
   -- of the ids that aren't its own it holds none
   pub nothing_else : (id : LspId) → is_own_number v.id.system id ≡ false → get new.database id ≡ None

@@ -1,5 +1,5 @@
 -- Two bridges of one port each that hear each other: the port of one comes up, and it sends a hello and its own LSP.
-use Rattle.std.proofs.Common.{◌≡◌, inl, inr, ◌≤◌, ◌<◌, ◌+◌, ℕ, suc, Bool, true, false, true≢false, List, [], ◌∷◌, ◌++◌, map, length, refl, sym, ap, ◌∙◌, subst, Option, Some, None, arith}
+use Rattle.std.proofs.Common.{◌≡◌, ◌*◌, inl, inr, ◌≤◌, ◌<◌, ◌+◌, ℕ, suc, Bool, true, false, true≢false, List, [], ◌∷◌, ◌++◌, map, length, refl, sym, ap, ◌∙◌, subst, Option, Some, None, arith}
 use Rattle.std.specs.Prelude.{if◌then◌else◌}
 use Rattle.std.specs.Option.{option_and_then}
 use Rattle.std.specs.FinMap.{get}
@@ -23,7 +23,7 @@ use Rattle.lsdb.specs.Version.{number_of, sum_of, is_absent}
 use Rattle.lsdb.specs.Entry.{Entry}
 use Rattle.lsdb.specs.Database.{version_at, srm_in}
 use Rattle.lsdb.specs.Certificate.{Claim, is_flagged, is_absent as is_none, is_as_before, is_claimed}
-use Rattle.flooding.specs.Own.{own_id, flags_in, tlvs_of_body}
+use Rattle.flooding.specs.Own.{own_numbers, own_id, flags_in, tlvs_of_body}
 use Rattle.flooding.specs.Hearing.{claim_of}
 use Rattle.flooding.specs.Entries.{IsSendable}
 use Rattle.flooding.proofs.SendableEntries.{sent_is_held}
@@ -35,7 +35,7 @@ use Rattle.adjacency.specs.declared.port.Adjacency.{Adjacency}
 use Rattle.adjacency.specs.Adjacency.{down, keeping, is_up, neighbour_of, after_second, said}
 use Rattle.bridge_api.specs.declared.port.BridgePort.{BridgePort}
 use Rattle.bridge_api.specs.View.{BridgeView, metrics_of, port_in, neighbour_at, is_port_up, is_up_in, is_up_at, has_carrier_in, has_carrier_at}
-use Rattle.bridge_api.specs.Own.{neighbours_from, member_of, local_of, body_of, body_in, Lasts, IsAlive}
+use Rattle.bridge_api.specs.Own.{neighbours_from, member_of, local_of, own_entry, body_in, Lasts, IsAlive}
 use Rattle.bridge_api.specs.Parsing.{parsed, is_octets, by_content}
 use Rattle.bridge_api.specs.Parsing as parsing
 use Rattle.spb_types.specs.declared.drop_reason.DropReason.TheVariants as drop
@@ -47,6 +47,10 @@ use Rattle.bridge_api.specs.Duties.{but_for_ssn}
 use Rattle.bridge_laws.specs.Few.{HoldsFew}
 use Rattle.bridge_api.proofs.Octets.{AreSmall, small_octets, octets_small, small_bytes, small_both}
 use Rattle.bridge_api.proofs.Changes.{readied_ports, readied_rest, tick_ports, when_true}
+use Rattle.flooding.specs.Settling.{IsLspCurrent}
+use Rattle.flooding.proofs.OwnNumbers.{some_number, few_numbers}
+use Rattle.spb_content.specs.Fragments.{part_of}
+use Rattle.bridge_api.proofs.Bodies.{first_text, first_body}
 use Rattle.bridge_api.proofs.Hellos.{control_small}
 use Rattle.bridge_api.proofs.Spelled.{lsp_taken}
 use Rattle.bridge_api.proofs.DataSteps.{readied_holds}
@@ -54,7 +58,7 @@ use Rattle.bridge_api.proofs.Meeting.{Starts, heard_down, hello_from, hears}
 use Rattle.bridge_laws.proofs.Entering.{entering_up_is_whole}
 use Rattle.bridge_api.proofs.Serving.{seconds_serve, seconds_leave_nothing_due}
 use Rattle.bridge_laws.proofs.FewHeld.{steps_hold_few}
-use Rattle.bridge_laws.proofs.FewSent.{seconds_send_few}
+use Rattle.bridge_laws.proofs.FewSent.{seconds_send_own}
 use Rattle.network_model.proofs.CountedSent.{hello_sends_none}
 use Rattle.network_model.proofs.BridgeLaws.{steps_stay_sound, steps_keep_bridge, hellos_are_heard, up_ports_are_up, steps_carry_database}
 
@@ -320,8 +324,10 @@ module _ (v w : BridgeView) (carriers : HaveFirstCarriers v w) where
   met_up = up_is (system 1) (keeping Up (system 2, 1) 2) (step second met) (second_starts (system 1) (keeping Up (system 2, 1) 3) met met_starts)
 
   -- in that second few frames are sent, and one is a hello
-  pub few_sent : length (sent second met) ≤ 20
-  few_sent = omega (arith, seconds_send_few 5 met (omega arith) met_few, met_one)
+  pub few_sent : length (sent second met) ≤ 1024
+  few_sent =
+      let few : length (sent second met) ≤ (3 * own_numbers + 2) * 1 = subst (λ (n : ℕ). length (sent second met) ≤ (3 * own_numbers + 2) * n) met_one (seconds_send_own 5 met (omega arith) met_few) in
+      omega (arith, few, few_numbers)
 
   pub hello_sent : IsHelloHeard met 1
   hello_sent = hello_from_at (system 1) (keeping Up (system 2, 1) 3) met met_sound met_starts refl (refl, omega arith) (octets 2 (omega arith))
@@ -401,15 +407,21 @@ module _ (v w : BridgeView) (carriers : HaveFirstCarriers v w) where
         attached = map (member_of (own j).system) (attached j);
       }
 
+  says : (body_in (own_entry after 0) ≡ first_text after) × IsAlive (own_entry after 0)
+  says = subst (λ (b : Option (List ℕ)). IsLspCurrent b (own_entry after 0)) (first_body after) (after_sound.own.current unspent 0 (omega (arith, some_number)))
+
+  -- it has no services, so that number 0 says all
+  all_is_first : content_bytes (part_of 0 (local_of after)) ≡ content_bytes own_local
+  all_is_first = ap (λ (l : Local). content_bytes (part_of 0 l)) after_local
+
   ready_body : body_in (get (readied met).database id) ≡ 1 ∷ content_bytes own_local
-  unfolding body_of
   ready_body =
       sym (body_but (get (readied met).database id)) ∙ (ap body_in (sym originates) ∙ (body_but (get after.database id)
       ∙ (ap (λ (s : SystemId). body_in (get after.database (own_id s))) (sym after_starts.id)
-      ∙ (after_sound.own.said unspent ∙ ap (λ (l : Local). 1 ∷ content_bytes l) after_local))))
+      ∙ (says.0 ∙ ap (λ (tlvs : List ℕ). 1 ∷ tlvs) all_is_first))))
 
   ready_alive : IsAlive (but_for_ssn (get (readied met).database id))
-  ready_alive = subst IsAlive originates (alive_but (get after.database id) (subst (λ (s : SystemId). IsAlive (get after.database (own_id s))) after_starts.id (after_sound.own.alive unspent)))
+  ready_alive = subst IsAlive originates (alive_but (get after.database id) (subst (λ (s : SystemId). IsAlive (get after.database (own_id s))) after_starts.id says.1))
 
   -- so it is sent, and heard as a live LSP
   own_sent : (o : Option Entry) → get (readied met).database id ≡ o → has (srm_in o) 1 ≡ true → body_in o ≡ 1 ∷ content_bytes own_local → IsAlive (but_for_ssn o) → SaysLsp met

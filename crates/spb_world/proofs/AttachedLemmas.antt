@@ -6,6 +6,7 @@ use Rattle.std.proofs.lemmas.Bool.{eqb-true, eq-eqb, ne_eqb, ltb-true, leb-true,
 use Rattle.std.proofs.lemmas.Bool.Decides.{nat_tests}
 use Rattle.std.proofs.lemmas.List.{take_more}
 use Rattle.std.proofs.lemmas.List.Elements.{filter_map-append}
+use Rattle.spb_types.specs.declared.limits.TheConstants.{MOST_ISIDS}
 use Rattle.spb_types.specs.declared.service.Attachment.{Attachment}
 use Rattle.bridge_api.specs.Config.{ArePairwise, different}
 use Rattle.bridge_api.specs.Services.{without_customer_port}
@@ -154,7 +155,7 @@ any_push k n [] = by (nat_eq k n)
     by false = refl
 any_push k n (l ∷ ks) = ap (λ (b : Bool). nat_eq k l || b) (any_push k n ks) ∙ sym (any_or (nat_eq k l) (list_any (nat_eq k) ks) (nat_eq k n))
 
-turned : (n m : ℕ) (b : Bool) → nat_eq m n ≡ b → nat_eq n m ≡ b
+pub turned : (n m : ℕ) (b : Bool) → nat_eq m n ≡ b → nat_eq n m ≡ b
 turned n m true same = eq-eqb n m (sym (eqb-true m n same))
 turned n m false apart = ne_eqb n m (λ e. true≢false (sym (eq-eqb m n (sym e)) ∙ apart))
 
@@ -189,7 +190,7 @@ map-push f (y ∷ ys) x = ap (λ l. f y ∷ l) (map-push f ys x)
 pub isids_pushed : (attached : List Attachment) (a : Attachment) → length (different (map (λ (x : Attachment). x.isid.value) (attached ++ a ∷ []))) ≡ length (isids_with attached a.isid.value)
 isids_pushed attached a = ap (λ (ns : List ℕ). length (different ns)) (map-push (λ (x : Attachment). x.isid.value) attached a) ∙ more_different a.isid.value (isids_of attached)
 
-add_one : (n : ℕ) → suc n ≡ n + 1
+pub add_one : (n : ℕ) → suc n ≡ n + 1
 add_one n = omega arith
 
 -- where it is new, it is one more
@@ -230,24 +231,24 @@ isids_few : (attached : List Attachment) → length (isids_of attached) ≡ leng
 isids_few [] = refl
 isids_few (a ∷ attached) = ap suc (isids_few attached)
 
-pub room_few : (attached : List Attachment) (isid count : ℕ) → count ≡ length attached → count < 60 → true ≡ has_isid_room attached isid
+pub room_few : (attached : List Attachment) (isid count : ℕ) → count ≡ length attached → count < MOST_ISIDS → true ≡ has_isid_room attached isid
 unfolding has_isid_room
 room_few attached isid count is few = sym (le-leb _ _ (omega (arith, is, few, different_few (isid ∷ isids_of attached), isids_few attached)))
 
 -- whether there is room, by how many there are
-pub room_old : (attached : List Attachment) (isid count : ℕ) (member : Bool) → member ≡ list_any (λ a. nat_eq isid a.isid.value) attached → member ≡ true → count ≡ length (different_isids attached) → nat_le count 60 ≡ has_isid_room attached isid
+pub room_old : (attached : List Attachment) (isid count : ℕ) (member : Bool) → member ≡ list_any (λ a. nat_eq isid a.isid.value) attached → member ≡ true → count ≡ length (different_isids attached) → nat_le count MOST_ISIDS ≡ has_isid_room attached isid
 unfolding has_isid_room
 room_old attached isid count member is old count_is =
-    ap (λ (n : ℕ). nat_le n 60) (count_is ∙ sym (isid_old attached isid (sym (isid_any isid attached) ∙ (sym is ∙ old))))
+    ap (λ (n : ℕ). nat_le n MOST_ISIDS) (count_is ∙ sym (isid_old attached isid (sym (isid_any isid attached) ∙ (sym is ∙ old))))
 
 lt_le : (a b : ℕ) → nat_lt a b ≡ nat_le (a + 1) b
 lt_le a b = grind (arith, nat_tests)
 
-pub room_new : (attached : List Attachment) (isid count : ℕ) (member : Bool) → member ≡ list_any (λ a. nat_eq isid a.isid.value) attached → member ≡ false → count ≡ length (different_isids attached) → nat_lt count 60 ≡ has_isid_room attached isid
+pub room_new : (attached : List Attachment) (isid count : ℕ) (member : Bool) → member ≡ list_any (λ a. nat_eq isid a.isid.value) attached → member ≡ false → count ≡ length (different_isids attached) → nat_lt count MOST_ISIDS ≡ has_isid_room attached isid
 unfolding has_isid_room
 room_new attached isid count member is new count_is =
-    lt_le count 60
-    ∙ ap (λ (n : ℕ). nat_le n 60) (ap (λ (n : ℕ). n + 1) count_is ∙ sym (isid_new attached isid (sym (isid_any isid attached) ∙ (sym is ∙ new))))
+    lt_le count MOST_ISIDS
+    ∙ ap (λ (n : ℕ). nat_le n MOST_ISIDS) (ap (λ (n : ℕ). n + 1) count_is ∙ sym (isid_new attached isid (sym (isid_any isid attached) ∙ (sym is ∙ new))))
 
 -- ---- what is declared stays sound
 

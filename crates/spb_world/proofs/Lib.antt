@@ -4,6 +4,7 @@ pub mod NameLemmas
 pub mod ServiceLemmas
 pub mod WorldLemmas
 pub mod AttachedLemmas
+pub mod CountLemmas
 pub mod ByPlace
 pub mod RefusalLemmas
 pub mod MemberLemmas

@@ -1,6 +1,9 @@
 //! Tests of customer ports and frames, and of what is attached at one bridge.
 ghost use Rattle.std.specs.Prelude.{◌≡◌, ◌==◌, not, length, nat_eq};
 ghost use Rattle.std.specs.List.{list_any};
+ghost use Rattle.std.specs.List.Sorted.{IsSorted};
+ghost use Rattle.std.specs.Ordering.{nat_cmp};
+ghost use Rattle.bridge_api.specs.Config.{different};
 ghost use Rattle.spb_world.specs.Attaching as attaching;
 
 use spb_types::Attachment;
@@ -57,8 +60,8 @@ fn is_first_of_isid(before: &[Attachment], attachment: &Attachment) -> bool
     !is_member(before, u64::from(attachment.isid.value))
 }
 
-/// How many different I-SIDs customer ports are attached to.
-fn isid_count(attached: &[Attachment]) -> usize
+/// How many different I-SIDs customer ports are attached to, by comparing each with those before it.
+fn isid_count_by_place(attached: &[Attachment]) -> usize
     ensures { result ≡ length (attaching.different_isids attached.now) }
 {
     let mut count = 0;
@@ -70,8 +73,47 @@ fn isid_count(attached: &[Attachment]) -> usize
     count
 }
 
-/// Whether a bridge to which this is attached has at most 960 different I-SIDs, with one more. Where fewer than 960 ports
-/// are attached, their number tells it.
+/// Writes the I-SID of each attachment to its place.
+fn put_isids(isids: &mut [u32], attached: &[Attachment])
+    requires { length isids.old ≡ length attached.now }
+    ensures { isids.new ≡ attaching.isids_of attached.now }
+{
+    for (k, attachment) in attached.iter().enumerate() {
+        isids[k] = attachment.isid.value;
+    }
+}
+
+/// How many different I-SIDs there are among ascending ones: each counts, unless the next one is the same.
+fn ascending_isid_count(isids: &[u32]) -> usize
+    requires { IsSorted nat_cmp isids.now }
+    ensures { result ≡ length (different isids.now) }
+{
+    let mut count = 0;
+    for k in 0..isids.len() {
+        if isids.get(k + 1) != Some(&isids[k]) {
+            count += 1;
+        }
+    }
+    count
+}
+
+/// How many different I-SIDs customer ports are attached to. They are sorted on the stack, which has a place for each
+/// customer port. If more were attached than there are places, each would be compared with those before it.
+fn isid_count(attached: &[Attachment]) -> usize
+    ensures { result ≡ length (attaching.different_isids attached.now) }
+{
+    let mut places = [0; MOST_CUSTOMER_PORTS as usize];
+    if attached.len() > places.len() {
+        return isid_count_by_place(attached);
+    }
+    let isids = &mut places[..attached.len()];
+    put_isids(isids, attached);
+    isids.sort_unstable();
+    ascending_isid_count(isids)
+}
+
+/// Whether a bridge to which this is attached has at most [`MOST_ISIDS`] different I-SIDs, with one more. Where fewer
+/// ports are attached, their number tells it.
 #[tactic(auto, unfolding(crate::specs::Attaching::has_isid_room))]
 pub fn has_isid_room(attached: &[Attachment], isid: u64) -> bool
     ensures { result ≡ attaching.has_isid_room attached.now isid }

@@ -5,7 +5,8 @@
 //! made of its fabric (`fdb_build`), which is made at the first such question, and kept with what was searched in it
 //! until a base VID, a bridge, a link, a metric or what is attached changes. What is attached is kept for each bridge:
 //! an `attach`, a `detach` and an entering frame go over what is attached at their bridge alone, once, or twice for a
-//! `detach`, and an `attach` once more for each port where 60 or more are; none takes memory for that.
+//! `detach`. Where `MOST_ISIDS` ports or more are, an `attach` sorts their I-SIDs too, on the stack. None takes memory
+//! for that.
 #![tactic(auto)]
 
 pub use declaration::{DeclaredBridge, DeclaredLink, LinkEnd};

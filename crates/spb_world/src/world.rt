@@ -456,7 +456,7 @@ impl World {
     }
 
     /// Why a customer port of the bridge at a place can't be attached to the service of an I-SID, if it can't. It takes
-    /// a pass over what is attached at this bridge; where 60 ports or more are, one more for each of them.
+    /// a pass over what is attached at this bridge; where `MOST_ISIDS` ports or more are, their I-SIDs are sorted too.
     #[tactic(auto, unfolding(crate::specs::Attaching::attach_refusal))]
     pub fn attach_refusal(&self, place: usize, port: u64, isid: u64) -> Option<Reason>
         ensures { result ≡ attaching.attach_refusal self.now place port isid }

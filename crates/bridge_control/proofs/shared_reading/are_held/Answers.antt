@@ -2,10 +2,11 @@ use Rattle.std.proofs.Common.{◌≡◌, ◌≤◌, Some, length, map, take, get
 use Rattle.std.proofs.lemmas.List.{take_all}
 use Rattle.std.specs.List.{filter_map}
 use Rattle.std.specs.FinMap.{entries, len-entries}
-use Rattle.spb_types.specs.declared.address.SystemId.{SystemId}
+use Rattle.spb_types.specs.declared.address.LspId.{LspId}
 use Rattle.lsdb.specs.Database.{keyed}
-use Rattle.bridge_control.specs.Reading.{copied, live_lsp, live_lsps}
-use Rattle.bridge_control.proofs.Compared.{same_more, none_more, there, next_same, as_many, copies_are_read}
+use Rattle.bridge_api.specs.Tables.{live_lsp, live_lsps, contents_among}
+use Rattle.bridge_control.specs.Reading.{copied}
+use Rattle.bridge_control.proofs.Compared.{same_more, none_more, there, next_same, as_many}
 use Rattle.bridge_control.proofs.shared_reading.are_held.Goals as goal
 use Rattle.bridge_control.proofs.shared_reading.are_held.Goals.{then-is_read+else-next-lsps+else-not-is_same, else-is_read, then-next-lsps-via-then-next-lsps, then-next-lsps-via-else-next-lsps+then-not-is_same}
 
@@ -37,14 +38,14 @@ returns-then-next-lsps-clause-held c = (λ e. absurd cc, λ same. absurd (otherw
     otherwise : live_lsps c.args.db.now ≡ map copied c.args.lsps.now → ⊥
     otherwise same =
         let held = c.in-Some.held.now in
-        let reads : live_lsp (keyed held) ≡ Some (held.id.system, held.body) = c.if-is_read.ensures.read refl in
-        let next = next_same live_lsp copied (entries c.args.db.now) c.args.lsps.now c.loop-place.place c.loop-place.next (keyed held) (held.id.system, held.body) (sym c.in-Some.ensures.entry) reads c.loop-place.invariant.0 same in
+        let reads : live_lsp (keyed held) ≡ Some (held.id, held.body) = c.if-is_read.ensures.read refl in
+        let next = next_same live_lsp copied (entries c.args.db.now) c.args.lsps.now c.loop-place.place c.loop-place.next (keyed held) (held.id, held.body) (sym c.in-Some.ensures.entry) reads c.loop-place.invariant.0 same in
         elim c.then-next-lsps.branch [
           | then-next-lsps-via-then-next-lsps w ↦ omega (arith, next.0, w.if-next-lsps.true)
           | then-next-lsps-via-else-next-lsps+then-not-is_same w ↦
               let d = w.index-lsps-next.result in
-              let is : copied d ≡ (held.id.system, held.body) = ap copied w.index-lsps-next.is ∙ next.1 d in
-              true≢false (sym (w.if-not-is_same.ensures.1 (reads ∙ ap (λ (lsp : SystemId × List ℕ). Some lsp) (sym is))))
+              let is : copied d ≡ (held.id, held.body) = ap copied w.index-lsps-next.is ∙ next.1 d in
+              true≢false (sym (w.if-not-is_same.ensures.1 (reads ∙ ap (λ (lsp : LspId × List ℕ). Some lsp) (sym is))))
         ]
 
 pub returns-clause-held : goal.returns-clause-held
@@ -61,4 +62,4 @@ returns-clause-held c =
     )
 
 pub returns-clause-read : goal.returns-clause-read
-returns-clause-read c = λ is. sym (copies_are_read c.args.db.now c.args.lsps.now (sym ((returns-clause-held c).0 is)))
+returns-clause-read c = λ is. ap contents_among ((returns-clause-held c).0 is)

@@ -4,9 +4,9 @@ use Rattle.std.specs.Global.{Vec}
 use Rattle.std.specs.List.{filter_map}
 use Rattle.std.specs.FinMap.{entries, len-entries}
 use Rattle.lsdb.specs.Database.{keyed}
-use Rattle.bridge_control.specs.Reading.{copied, live_lsp}
+use Rattle.bridge_api.specs.Tables.{live_lsp, contents_among}
+use Rattle.bridge_control.specs.Reading.{copied}
 use Rattle.bridge_control.specs.declared.shared_reading.LiveLsp.{LiveLsp}
-use Rattle.bridge_control.proofs.Compared.{copies_are_read}
 use Rattle.bridge_control.proofs.OwnTables.{read_more, read_past}
 use Rattle.bridge_control.proofs.shared_reading.read_lsps.Goals as goal
 use Rattle.bridge_control.proofs.shared_reading.read_lsps.Goals.{in-Some+in_ok-push_lsp, in_default}
@@ -31,4 +31,4 @@ returns-clause-held c =
     c.loop-place.invariant ∙ ap (filter_map live_lsp) (take_all c.loop-place.place es all)
 
 pub returns-clause-read : goal.returns-clause-read
-returns-clause-read c = copies_are_read c.args.db.now c.loop-place.lsps.items (returns-clause-held c)
+returns-clause-read c = ap contents_among (returns-clause-held c)

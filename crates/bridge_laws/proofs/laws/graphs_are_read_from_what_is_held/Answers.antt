@@ -1,8 +1,8 @@
-use Rattle.bridge_api.proofs.GraphRead.{reads_what_is_held, reads_each_once, reads_itself}
-use Rattle.bridge_laws.proofs.OthersRead.{reads_others}
+use Rattle.bridge_api.proofs.GraphRead.{reads_what_is_held, reads_each_once}
+use Rattle.bridge_laws.proofs.OthersRead.{reads_others, reads_itself}
 use Rattle.bridge_laws.proofs.SaidNeighbours.{says_its_neighbours}
 use Rattle.bridge_laws.proofs.SaidMembers.{members_are_said}
-use Rattle.bridge_api.proofs.OwnPorts.{own_ports_are_apart}
+use Rattle.bridge_api.proofs.OwnRead.{own_ports_are_apart}
 use Rattle.bridge_laws.proofs.laws.graphs_are_read_from_what_is_held.Goals as goal
 
 pub returns-clause-held : goal.returns-clause-held
