@@ -41,8 +41,8 @@ pub fn a_delivery_is_one_step()
 {}
 
 /// A bridge that restarted is one that was just configured with the metrics of its links and what is attached to its
-/// ports, and then got carrier on its links that are up: nothing is left of what it held but its sequence numbers, above
-/// which its own LSPs begin. It took the next blank box of its kind; without one nothing changes.
+/// ports, and then got carrier on its links that are up: nothing is left of what it held but its sequence numbers,
+/// above which its own LSPs begin. It took the next blank box of its kind; without one nothing changes.
 pub fn a_restart_begins_anew()
     ensures { RestartIsNew }
 {}

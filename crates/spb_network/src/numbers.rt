@@ -13,7 +13,7 @@ use lsdb::Held;
 use spb_types::{LspId, NoMemory, Seq, SystemId};
 use std::alloc::Global;
 
-/// Whether an id is that of one of a system's own LSPs, whatever its number: its pseudonode is 0 (ISO/IEC 10589, 7.3.7).
+/// Whether an id is that of one of a system's own LSPs, whatever its number: its pseudonode is 0.
 fn is_of(system: SystemId, id: &LspId) -> bool
     ensures { result ≡ numbers.is_of system id.now }
 {

@@ -1,6 +1,5 @@
-use Rattle.std.proofs.Common.{List, IfOk, sym, ap, subst, ◌∙◌, Option}
+use Rattle.std.proofs.Common.{sym, ap, ◌∙◌}
 use Rattle.bridge_api.specs.Shown.{view_in}
-use Rattle.bridge_api.specs.View.{BridgeView}
 use Rattle.network_model.specs.Restarting.{last_of}
 use Rattle.spb_world.proofs.BoxLemmas.{get-map, get-map-none, seen, seen-none}
 use Rattle.spb_network.proofs.Keeping.{if_ok}

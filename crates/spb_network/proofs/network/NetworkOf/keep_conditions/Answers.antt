@@ -8,5 +8,5 @@ returns-clause-sound g c = record {
   state = c.requires.state;
   counted = c.requires.counted;
   outs = c.requires.outs;
-  kept = found_kept (state_of g.B.Bridge.shown c.args.self.now) c.conditions.result c.conditions.ensures;
+  kept = found_kept (state_of g.B.Bridge.shown c.args.self.now) c.conditions-found.result c.conditions-found.ensures;
 }
