@@ -1,5 +1,5 @@
 -- What a bridge has to say in its own LSPs, number by number.
-use Rattle.std.proofs.Common.{◌≡◌, inl, inr, ℕ, zero, suc, ◌+◌, ◌≤◌, ◌<◌, List, [], ◌∷◌, map, refl, sym, ap, ◌∙◌, Option, Some, None, arith}
+use Rattle.std.proofs.Common.{◌≡◌, inl, inr, ℕ, zero, suc, ◌+◌, ◌≤◌, ◌<◌, List, ◌∷◌, map, refl, sym, ap, ◌∙◌, Option, Some, None, arith}
 use Rattle.std.specs.Prelude.{slice_get}
 use Rattle.std.specs.Option.{option_map, option_and_then}
 use Rattle.std.proofs.lemmas.Bool.{cases_lt}
@@ -42,7 +42,7 @@ body_at_is v number below =
     ap (option_and_then (λ (b : Option (List ℕ)). b)) (slice_get-map in_lsp fragments number ∙ ap (option_map in_lsp) (there (local_of v) own_numbers 0 number below))
     ∙ ap (λ i. in_lsp (fragment (local_of v) i)) same
 
-no_body : (v : BridgeView) (number : ℕ) → own_numbers ≤ number → body_at v number ≡ None
+pub no_body : (v : BridgeView) (number : ℕ) → own_numbers ≤ number → body_at v number ≡ None
 unfolding bodies_of
 no_body v number past =
     let fragments : List (Option (List ℕ)) = fragments_from (local_of v) own_numbers 0 in

@@ -4,7 +4,7 @@ use Rattle.spb_types.specs.declared.drop_reason.DropReason.{DropReason}
 use Rattle.bridge_api.specs.declared.drops.Drops.{Drops}
 use Rattle.bridge_api.specs.Drops.{raised_at}
 use Rattle.bridge_api.specs.View.{BridgeView, with_drops}
-use Rattle.bridge_api.specs.Own.{own_of, body_of}
+use Rattle.bridge_api.specs.Own.{own_of, bodies_of}
 use Rattle.bridge_api.specs.Hearing.{after_drop}
 use Rattle.bridge_api.specs.Tables.{own_tables}
 use Rattle.bridge_control.specs.declared.machine.Machine.{Machine}
@@ -12,7 +12,7 @@ use Rattle.bridge_control.specs.Machine.{view_of, IsCurrent, IsAfter}
 
 -- the counts aren't said
 counted_own : (v : BridgeView) (drops : Drops) → own_of v ≡ own_of (with_drops drops v)
-unfolding body_of
+unfolding bodies_of
 counted_own v drops = refl
 
 pub counted_current : (m : Machine) (drops : Drops) → IsCurrent m → IsCurrent (record m { drops = drops })

@@ -1,4 +1,5 @@
 pub mod Loops
+pub mod Renewing
 pub mod Picked
 pub mod Wire
 pub mod Following

@@ -14,7 +14,7 @@ use Rattle.bridge_api.specs.declared.port.BridgePort.{BridgePort}
 use Rattle.bridge_api.specs.declared.drops.Drops.{Drops}
 use Rattle.bridge_api.specs.Drops.{raised_for}
 use Rattle.bridge_api.specs.View.{BridgeView, port_at, with_drops, has_carrier_in, has_carrier_at}
-use Rattle.bridge_api.specs.Own.{own_of, body_of}
+use Rattle.bridge_api.specs.Own.{own_of, bodies_of}
 use Rattle.bridge_api.specs.Customers.{tenant_of, with_learned, after_entry, moved_by_entry, moved_as, moved_at, moved_by_receive}
 use Rattle.bridge_api.specs.Parsing.{Parsed, parsed}
 use Rattle.bridge_api.specs.Step.{with_moved, GainsMoved}
@@ -28,7 +28,7 @@ use Rattle.bridge_control.proofs.Telling.{tenant_is}
 -- ---- what a machine has learned
 
 learned_own : (v : BridgeView) (learned : Addresses) (drops : Drops) → own_of v ≡ own_of (with_drops drops (with_learned learned v))
-unfolding body_of
+unfolding bodies_of
 learned_own v learned drops = refl
 
 -- the machine that has learned this, and counted what it drops

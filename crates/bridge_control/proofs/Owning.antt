@@ -1,7 +1,6 @@
 -- What a machine says of itself, and what it makes of its own LSPs.
-use Rattle.std.proofs.Common.{◌≡◌, ◌≤◌, ℕ, zero, suc, Bool, List, [], ◌∷◌, map, length, refl, sym, ap, ◌∙◌, subst, Some, None, arith}
-use Rattle.std.specs.Prelude.{slice_get}
-use Rattle.std.specs.Option.{option_and_then}
+use Rattle.std.proofs.Common.{◌≡◌, ◌≤◌, inl, inr, ℕ, Bool, List, length, refl, sym, ap, ◌∙◌, subst, Option, Some, None, arith}
+use Rattle.std.proofs.lemmas.Bool.{cases_lt}
 use Rattle.std.specs.Global.{Vec}
 use Rattle.spb_types.specs.declared.ports.PortSet.{PortSet}
 use Rattle.lsdb.specs.Database.{Lsps}
@@ -11,16 +10,17 @@ use Rattle.flooding.specs.Hearing.{Holding, HasFewOthers}
 use Rattle.flooding.specs.Placing.{holding}
 use Rattle.flooding.specs.Starting.{started_all}
 use Rattle.flooding.specs.Settling.{Test, says, is_new, settled_by, settled, kept_fresh}
-use Rattle.flooding.specs.Own.{HaveBytes, HasFirstNumbers}
+use Rattle.flooding.specs.Own.{own_numbers, HaveBytes, HasFirstNumbers}
 use Rattle.flooding.proofs.Begun.{all_own}
 use Rattle.flooding.proofs.Settled.{settling_leaves_own}
-use Rattle.spb_content.specs.Local.{content_bytes}
+use Rattle.spb_content.specs.Fragments.{fragment}
+use Rattle.spb_content.proofs.Parts.{fragments_are_first}
 use Rattle.bridge_api.specs.declared.port.BridgePort.{BridgePort}
-use Rattle.bridge_api.specs.View.{BridgeView, up_from, up_ports}
-use Rattle.bridge_api.specs.Own.{neighbours_from, member_of, body_of, own_of, holding_of, with_holding, after_begin, originated_if_changed}
+use Rattle.bridge_api.specs.View.{BridgeView, up_from}
+use Rattle.bridge_api.specs.Own.{neighbours_from, local_of, bodies_of, own_of, holding_of, with_holding, after_begin, originated_if_changed}
 use Rattle.bridge_api.specs.Ticking.{refreshed}
 use Rattle.bridge_api.proofs.Changes.{settling}
-use Rattle.bridge_api.proofs.OneNumber.{one_body}
+use Rattle.bridge_api.proofs.Bodies.{in_lsp, body_at_is, no_body, IsFragment, is_fragment, bodies_with}
 use Rattle.bridge_control.specs.declared.machine.Machine.{Machine}
 use Rattle.bridge_control.specs.Machine.{view_of, FollowsPorts, IsCurrent, IsReady, CanOriginate, IsAfter}
 use Rattle.bridge_control.proofs.Following.{AreAlike, alike_refl, follow_with}
@@ -28,30 +28,39 @@ use Rattle.bridge_control.proofs.Following.{AreAlike, alike_refl, follow_with}
 -- ---- what is said
 
 -- a bridge with the same neighbours says the same
-pub said_alike : (v : BridgeView) (ports : List BridgePort) (db : Lsps) (spent : Bool) → neighbours_from 1 ports ≡ neighbours_from 1 v.ports → body_of (record v { ports = ports; database = db; spent = spent }) ≡ body_of v
-unfolding body_of
-said_alike v ports db spent same =
-    λ i. 1 ∷ content_bytes (record { config = record { id = v.id; source = v.source; vids = v.vids }; neighbours = same i; attached = map (member_of v.id.system) v.attached })
+pub said_alike : (v : BridgeView) (ports : List BridgePort) (db : Lsps) (spent : Bool) → neighbours_from 1 ports ≡ neighbours_from 1 v.ports → bodies_of (record v { ports = ports; database = db; spent = spent }) ≡ bodies_of v
+unfolding bodies_of
+said_alike v ports db spent same = ap (bodies_with v) same
 
-long_body : (v : BridgeView) → 1 ≤ length (body_of v)
-unfolding body_of
-long_body v = omega arith
+-- each body has a byte
+have_bytes : (v : BridgeView) → HaveBytes (own_of v)
+have_bytes v number body is =
+    let f : IsFragment v number body = is_fragment v number body is in
+    subst (λ (b : List ℕ). 1 ≤ length b) (sym f.is) (omega arith)
+
+-- and those that there are come first
+no_fragment : (o : Option (List ℕ)) → in_lsp o ≡ None → o ≡ None
+no_fragment None is = refl
+no_fragment (Some tlvs) is = absurd cc
+
+first_numbers : (v : BridgeView) → HasFirstNumbers (own_of v)
+first_numbers v number later low none =
+    elim (cases_lt later own_numbers) [
+      | inl below ↦
+          let gone : fragment (local_of v) number ≡ None = no_fragment (fragment (local_of v) number) (sym (body_at_is v number (omega (arith, low, below))) ∙ none) in
+          body_at_is v later below ∙ ap in_lsp (fragments_are_first (local_of v) number later low gone)
+      | inr past ↦ no_body v later past
+    ]
 
 -- what is so of what the bridge says of itself, is so of what is kept of it
 kept_own : (m : Machine) (P : Own → Type 0) → IsCurrent m → P (own_of (view_of m)) → P m.own
 kept_own m P current is = subst P (sym current.own) is
 
 pub own_bytes : (m : Machine) → IsCurrent m → HaveBytes m.own
-own_bytes m current =
-    kept_own m HaveBytes current (λ number body is. subst (λ (b : List ℕ). 1 ≤ length b) (one_body (body_of (view_of m)) number body is) (long_body (view_of m)))
-
-first_numbers : (body : List ℕ) (number later : ℕ) → number ≤ later → option_and_then (λ x. x) (slice_get (Some body ∷ []) number) ≡ None → option_and_then (λ x. x) (slice_get (Some body ∷ []) later) ≡ None
-first_numbers body zero later low is = absurd cc
-first_numbers body (suc number) zero low is = absurd (omega (arith, low))
-first_numbers body (suc number) (suc later) low is = refl
+own_bytes m current = kept_own m HaveBytes current (have_bytes (view_of m))
 
 pub own_first : (m : Machine) → IsCurrent m → HasFirstNumbers m.own
-own_first m current = kept_own m HasFirstNumbers current (first_numbers (body_of (view_of m)))
+own_first m current = kept_own m HasFirstNumbers current (first_numbers (view_of m))
 
 pub own_few : (m : Machine) → IsCurrent m → others m.id.system m.db ≤ most_others → HasFewOthers (holding m.db m.own)
 own_few m current few = kept_own m (λ own. HasFewOthers (holding m.db own)) current few
@@ -61,10 +70,10 @@ pub current_with : (m : Machine) (ports : Vec BridgePort) (db : Lsps) (own : Own
     → AreAlike m.id.system 1 m.ports.items ports.items → IsCurrent (record m { ports = ports; db = db; own = own })
 current_with m ports db own current system bodies same alike =
     let s = system ∙ ap (λ (o : Own). o.system) current.own in
-    let b = bodies ∙ (ap (λ (o : Own). o.bodies) current.own ∙ ap (λ (b : List ℕ). Some b ∷ []) (sym (said_alike (view_of m) ports.items db own.spent same))) in
+    let b = bodies ∙ (ap (λ (o : Own). o.bodies) current.own ∙ sym (said_alike (view_of m) ports.items db own.spent same)) in
     record { own = λ i. record { system = s i; bodies = b i; spent = own.spent }; ports = follow_with m ports db own current.ports alike }
 
--- the body was made anew
+-- the bodies were made anew
 pub renewed_current : (m n : Machine) → FollowsPorts m → n ≡ record m { own = own_of (view_of m) } → IsCurrent n
 renewed_current m n follows is = subst IsCurrent (sym is) (record { own = refl; ports = record { hellos = follows.hellos; up = follows.up; me = follows.me; heard = follows.heard } })
 
@@ -91,7 +100,7 @@ begun_after m last db own current is =
 
 -- ---- brought up to date
 
--- nothing is said but by the system and its body
+-- nothing is said but by the system and its bodies
 brought_current : (m : Machine) (stands : Test) (up : PortSet) (db : Lsps) (own : Own) → IsCurrent m → holding db own ≡ settled_by stands up (holding m.db m.own) → IsCurrent (record m { db = db; own = own })
 brought_current m stands up db own current is =
     let leaves = settling_leaves_own stands up (holding m.db m.own) in

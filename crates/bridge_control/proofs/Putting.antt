@@ -11,6 +11,7 @@ use Rattle.spb_tlvs.specs.declared.three_way.ThreeWay.{ThreeWay}
 use Rattle.lsdb.specs.Entry.{flags_cleared_at, srm_set_at}
 use Rattle.lsdb.specs.Database.{Lsps, each}
 use Rattle.flooding.specs.declared.own.Own.{Own}
+use Rattle.flooding.specs.Settling.{AreCurrent}
 use Rattle.flooding.specs.Room.{most_others, others}
 use Rattle.flooding.proofs.Few.{changing_keeps_others}
 use Rattle.spb_content.specs.Local.{IsLocal}
@@ -120,13 +121,13 @@ local_with m p new ready is =
 pub can_put : (m : Machine) (p : ℕ) (new : BridgePort) → IsReady m → IsPort (view_of m) p → IsMetric new.metric → CanPut p new m
 can_put m p new ready is metric = record { port = is; can = ready_can m ready; current = ready.current; local = local_with m p new ready metric; own_lsp = ready.sound.own }
 
--- a port that is kept: the own LSP says what the bridge has to say still
+-- a port that is kept: the own LSPs say what the bridge has to say still
 pub kept_after : (m n : Machine) (p : ℕ) (new : BridgePort) → CanPut p new m → SaysTheSame p new m → IsPut p new m n → IsAfter (originated_if_changed (with_port_at p new (view_of m))) n
 kept_after m n p new can same is =
     let w : BridgeView = with_port_at p new (view_of m) in
-    let says : own_of (view_of m) ≡ own_of w = λ i. record { system = m.id.system; bodies = Some (sym same i) ∷ []; spent = m.own.spent } in
+    let says : own_of (view_of m) ≡ own_of w = λ i. record { system = m.id.system; bodies = sym same i; spent = m.own.spent } in
     record {
-      view = is.view ∙ sym (saying_settles w (λ fresh. (can.own_lsp.said fresh ∙ sym same, can.own_lsp.alive fresh)));
+      view = is.view ∙ sym (saying_settles w (subst (λ (own : Own). AreCurrent (record { db = m.db; own = own })) says can.own_lsp.current));
       current = record { own = is.own ∙ (can.current.own ∙ (says ∙ ap own_of (sym is.view))); ports = is.ports };
     }
 
@@ -201,7 +202,7 @@ entering_after m n k p new db after is joins =
     let same : neighbours_from 1 due ≡ neighbours_from 1 n.ports.items = ap (neighbours_from 1) now ∙ (alike_neighbours olds (p - 1) 1 (with_csnp_due true new) (with_csnp_due false new) (λ q rest. refl) ∙ sym (ap (neighbours_from 1) before)) in
     let u : BridgeView = record (view_of n) { ports = due; database = each (λ id e. srm_set_at p e) n.db } in
     let view : view_of (record k { db = db }) ≡ u = (λ i. record (view_of k) { database = joins i }) ∙ ap (λ (v : BridgeView). record v { database = each (λ id e. srm_set_at p e) v.database }) is.view in
-    let says : own_of (view_of n) ≡ own_of u = λ i. record { system = n.id.system; bodies = Some (sym (said_alike (view_of n) due (each (λ id e. srm_set_at p e) n.db) n.own.spent same) i) ∷ []; spent = n.own.spent } in
+    let says : own_of (view_of n) ≡ own_of u = λ i. record { system = n.id.system; bodies = sym (said_alike (view_of n) due (each (λ id e. srm_set_at p e) n.db) n.own.spent same) i; spent = n.own.spent } in
     record {
       view = view ∙ ap (all_srm_set_at p new) after.view;
       current = record { own = is.own ∙ (after.current.own ∙ (says ∙ ap own_of (sym view))); ports = record { hellos = is.ports.hellos; up = is.ports.up; me = is.ports.me; heard = is.ports.heard } };

@@ -1,6 +1,6 @@
 -- A second of a machine.
-use Rattle.std.proofs.Common.{◌≡◌, ◌≤◌, ◌+◌, ◌-◌, ℕ, Bool, true, false, List, [], ◌∷◌, map, take, drop, length, refl, sym, ap, ◌∙◌, subst, Option, Some, None, arith}
-use Rattle.std.specs.Prelude.{◌||◌, if◌then◌else◌}
+use Rattle.std.proofs.Common.{◌≡◌, ◌≤◌, ◌<◌, ◌+◌, ◌-◌, ℕ, Bool, true, false, List, [], ◌∷◌, map, take, drop, length, refl, sym, ap, ◌∙◌, subst, Option, Some, None, arith}
+use Rattle.std.specs.Prelude.{◌||◌, not, if◌then◌else◌}
 use Rattle.std.specs.Global.{Vec}
 use Rattle.std.proofs.lemmas.List.{length-map}
 use Rattle.spb_types.specs.declared.ports.PortSet.{PortSet}
@@ -11,10 +11,10 @@ use Rattle.lsdb.specs.Entry.{Entry, aged}
 use Rattle.lsdb.specs.Database.{Lsps, each, any_flags, version_in}
 use Rattle.lsdb.specs.Time.{lifetime_in, is_live}
 use Rattle.flooding.specs.declared.own.Own.{Own}
-use Rattle.flooding.specs.Own.{own_id}
+use Rattle.flooding.specs.Own.{own_numbers, own_number}
 use Rattle.flooding.specs.Room.{most_others, others}
 use Rattle.flooding.specs.Placing.{holding}
-use Rattle.flooding.specs.Settling.{is_said}
+use Rattle.flooding.specs.Settling.{says, is_said, IsLspCurrent}
 use Rattle.flooding.proofs.Current.{says_both}
 use Rattle.spb_content.specs.Local.{IsLocal}
 use Rattle.adjacency.specs.Adjacency.{is_up}
@@ -22,17 +22,18 @@ use Rattle.flooding.specs.Entries.{AreSendable}
 use Rattle.snp_sync.specs.Sized.{AreSized}
 use Rattle.bridge_api.specs.declared.port.BridgePort.{BridgePort}
 use Rattle.bridge_api.specs.View.{BridgeView, is_port_up, up_from, up_ports}
-use Rattle.bridge_api.specs.Own.{neighbour_in, neighbours_from, local_of, body_of, own_of, holding_of, own_entry, body_in, Lasts, IsAlive}
+use Rattle.bridge_api.specs.Own.{neighbour_in, neighbours_from, local_of, bodies_of, body_at, own_of, holding_of, own_entry, Lasts, IsAlive}
 use Rattle.bridge_api.specs.Hearing.{with_csnp_due}
 use Rattle.bridge_api.specs.Ticking.{later, leaving_from, flags_cleared_at_all, counts_lowered, expired, readied, after_sending, after_sending_from, sent_from, after_tick, sent_in_tick}
 use Rattle.bridge_api.specs.Laws.{IsSoundView}
-use Rattle.bridge_api.specs.Time.{IsLasting}
+use Rattle.bridge_api.specs.Time.{AgedFrom, stays, dies as died, IsLasting}
+use Rattle.bridge_api.proofs.Bodies.{same_at}
 use Rattle.bridge_api.proofs.Changes.{tick_is, readied_ports}
 use Rattle.bridge_api.proofs.SoundPorts.{all_later, config_kept}
 use Rattle.bridge_api.proofs.Saying.{is_local}
 use Rattle.bridge_api.proofs.Data.{Holds, lsps_of, counts_lowered_keeps, expired_keeps, refreshed_keeps}
 use Rattle.bridge_api.proofs.DataSteps.{can_originate}
-use Rattle.bridge_api.proofs.TimeLsps.{older_lasts, expired_holds as expired_holds_at}
+use Rattle.bridge_api.proofs.TimeLsps.{older_lasts, older_ages, expired_holds as expired_holds_at}
 use Rattle.bridge_control.specs.declared.machine.Machine.{Machine}
 use Rattle.bridge_control.specs.Machine.{view_of, hellos_from, FollowsPorts, IsReady, CanOriginate, IsAfter}
 use Rattle.bridge_control.specs.Ports.{AreSoundPorts, AreUnused, has_lost}
@@ -106,7 +107,7 @@ expired_after w m up db is is_up are = record {
 }
 
 expired_holds : (v : BridgeView) → IsSoundView v → Holds (expired (counts_lowered v))
-expired_holds v sound = expired_keeps (counts_lowered v) (counts_lowered_keeps v sound.few (lsps_of v sound.database sound.own.text))
+expired_holds v sound = expired_keeps (counts_lowered v) (counts_lowered_keeps v sound.few (lsps_of v sound.database sound.own))
 
 pub expired_can : (m n : Machine) → IsReady m → IsAfter (expired (counts_lowered (view_of m))) n → CanOriginate n
 expired_can m n ready is =
@@ -116,7 +117,7 @@ expired_can m n ready is =
       room = subst (λ (u : BridgeView). others u.id.system u.database ≤ most_others) (sym is.view) (expired_holds (view_of m) ready.sound).room;
     }
 
--- ---- the own LSP says what the bridge has to say where no neighbour is lost
+-- ---- own LSPs say what the bridge has to say where no neighbour is lost
 
 lives : (a : Version) (lifetime : ℕ) → Lasts a lifetime → (is_live a ≡ true) × (301 ≤ lifetime)
 lives Absent lifetime lasts = absurd lasts
@@ -127,27 +128,38 @@ lives_in : (o : Option Entry) → IsAlive o → (is_live (version_in o) ≡ true
 lives_in None alive = absurd alive
 lives_in (Some e) alive = lives e.version e.lifetime alive
 
-older_says : (v : BridgeView) → IsSoundView v → v.spent ≡ false → (is_live (version_in (own_entry (expired (counts_lowered v)))) ≡ true) × (body_in (own_entry (expired (counts_lowered v))) ≡ body_of v)
-older_says v sound fresh =
-    let alive = lives_in (own_entry v) (sound.own.alive fresh) in
-    let left : ℕ = lifetime_in (own_entry v) - 1 in
-    let count : lifetime_in (own_entry v) ≡ left + 1 = omega (arith, alive.1) in
-    let lasts : IsLasting left (own_entry v) (own_entry (expired (counts_lowered v))) =
-    subst (IsLasting left (own_entry v)) (sym (expired_holds_at v (own_id v.id.system))) (older_lasts (up_ports (counts_lowered v)) (leaving_from 1 v.ports) (own_entry v) left alive.0 count (omega (arith, alive.1, count))) in
-    (ap is_live lasts.version ∙ alive.0, lasts.body ∙ sound.own.said fresh)
+-- what stands under an own number when the lifetimes fell
+abbrev older_at : BridgeView → ℕ → Option Entry
+older_at v number = own_entry (expired (counts_lowered v)) number
 
-still_said : (v : BridgeView) → IsSoundView v → v.spent ≡ false → has_lost v.ports ≡ false → is_said (holding_of (expired (counts_lowered v))) 0 ≡ true
-still_said v sound fresh none =
+still_dead : (old new : Option Entry) → is_live (version_in old) ≡ false → AgedFrom old new → is_live (version_in new) ≡ false
+still_dead old new dead (stays version body most least) = ap is_live version ∙ dead
+still_dead old new dead (died live last version body) = ap is_live version
+
+older_says : (v : BridgeView) (number : ℕ) (text : Option (List ℕ)) → IsLspCurrent text (own_entry v number) → says text (older_at v number) ≡ true
+older_says v number None dead =
+    let ages : AgedFrom (own_entry v number) (older_at v number) =
+    subst (AgedFrom (own_entry v number)) (sym (expired_holds_at v (own_number v.id.system number))) (older_ages (up_ports (counts_lowered v)) (leaving_from 1 v.ports) (own_entry v number)) in
+    ap not (still_dead (own_entry v number) (older_at v number) dead ages)
+older_says v number (Some body) current =
+    let alive = lives_in (own_entry v number) current.1 in
+    let left : ℕ = lifetime_in (own_entry v number) - 1 in
+    let count : lifetime_in (own_entry v number) ≡ left + 1 = omega (arith, alive.1) in
+    let lasts : IsLasting left (own_entry v number) (older_at v number) =
+    subst (IsLasting left (own_entry v number)) (sym (expired_holds_at v (own_number v.id.system number))) (older_lasts (up_ports (counts_lowered v)) (leaving_from 1 v.ports) (own_entry v number) left alive.0 count (omega (arith, alive.1, count))) in
+    says_both body (older_at v number) (ap is_live lasts.version ∙ alive.0) (lasts.body ∙ current.0)
+
+still_said : (v : BridgeView) → IsSoundView v → v.spent ≡ false → has_lost v.ports ≡ false → (number : ℕ) → number < own_numbers → is_said (holding_of (expired (counts_lowered v))) number ≡ true
+still_said v sound fresh none number below =
     let w : BridgeView = expired (counts_lowered v) in
-    let same : body_of w ≡ body_of v = said_alike v (map later v.ports) w.database v.spent (neighbours_later v.ports none) in
-    let older = older_says v sound fresh in
-    says_both (body_of w) (own_entry w) older.0 (older.1 ∙ sym same)
+    let same : bodies_of w ≡ bodies_of v = said_alike v (map later v.ports) w.database v.spent (neighbours_later v.ports none) in
+    ap (λ (text : Option (List ℕ)). says text (older_at v number)) (same_at number (bodies_of w) (bodies_of v) same) ∙ older_says v number (body_at v number) (sound.own.current fresh number below)
 
-pub idle_said : (m n : Machine) → IsReady m → IsAfter (expired (counts_lowered (view_of m))) n → has_lost m.ports.items ≡ false → n.own.spent ≡ false → is_said (holding n.db n.own) 0 ≡ true
-idle_said m n ready is none fresh =
+pub idle_said : (m n : Machine) → IsReady m → IsAfter (expired (counts_lowered (view_of m))) n → has_lost m.ports.items ≡ false → n.own.spent ≡ false → (number : ℕ) → number < own_numbers → is_said (holding n.db n.own) number ≡ true
+idle_said m n ready is none fresh number below =
     let v : BridgeView = view_of m in
     let unspent : v.spent ≡ false = sym (ap (λ (w : BridgeView). w.spent) is.view) ∙ fresh in
-    (λ i. is_said (holding n.db (is.current.own i)) 0) ∙ (ap (λ (w : BridgeView). is_said (holding_of w) 0) is.view ∙ still_said v ready.sound unspent none)
+    (λ i. is_said (holding n.db (is.current.own i)) number) ∙ (ap (λ (w : BridgeView). is_said (holding_of w) number) is.view ∙ still_said v ready.sound unspent none number below)
 
 -- ---- the bridge that sends
 

@@ -1,27 +1,32 @@
 -- A customer port beside another of its service: the bridge says the same of itself with it and without it.
-use Rattle.std.proofs.Common.{Some, ◌≡◌, ◌⊎◌, inl, inr, ℕ, Bool, true, false, List, [], ◌∷◌, ◌++◌, map, filter, refl, sym, ap, ◌∙◌, subst}
+use Rattle.std.proofs.Common.{Option, Some, ◌≡◌, ◌⊎◌, inl, inr, ℕ, zero, suc, ◌+◌, ◌*◌, take, drop, Bool, true, false, List, [], ◌∷◌, ◌++◌, map, refl, sym, ap, ◌∙◌, subst}
 use Rattle.std.specs.Prelude.{◌||◌, ◌&&◌, ◌==◌, Contains}
-use Rattle.std.specs.List.{list_any, list_all}
+use Rattle.std.specs.List.{list_any, list_all, AllByRecursion}
 use Rattle.std.proofs.lemmas.Bool.{eqb-true}
 use Rattle.spb_types.specs.declared.address.SystemId.{SystemId}
 use Rattle.spb_types.specs.declared.graph.Member.{Member}
-use Rattle.spb_types.specs.declared.level.TheConstants.{LEVEL_1}
 use Rattle.spb_types.specs.declared.service.Attachment.{Attachment}
 use Rattle.customer_learning.specs.Known.{Addresses}
 use Rattle.forwarding.specs.Ports.{is_at_other_port, is_in, is_served, without_customer_port}
 use Rattle.forwarding.specs.Detaching.{after_detach}
-use Rattle.spb_content.specs.Local.{IsLocal}
-use Rattle.spb_content.specs.Laws.{IsLike}
-use Rattle.spb_content.proofs.AnyOrder.{order_says_nothing}
-use Rattle.spb_content.proofs.Groups.{same_is_written}
+use Rattle.flooding.specs.declared.own.Own.{Own}
+use Rattle.flooding.specs.Own.{own_numbers}
+use Rattle.flooding.specs.Settling.{AreCurrent}
+use Rattle.spb_content.specs.declared.local.Local.{Local}
+use Rattle.spb_content.specs.Fragments.{unless_none, fragment, fragments_from}
+use Rattle.spb_content.specs.Local.{IsLocal, IsAttached, content_bytes, service_tlvs}
+use Rattle.spb_content.specs.Members.{pair_of, pairs_of, member_for, merged}
+use Rattle.spb_content.proofs.Ascended.{ascends_once}
+use Rattle.spb_content.proofs.Pairs.{service_number, merged_ascends, merged_paired, paired_merged}
 use Rattle.spb_content.proofs.Members.{Has, has_from_contains, contains_from_has, has_left, has_parts, has_map, map_has, has_filter, filter_has}
 use Rattle.bridge_api.specs.View.{BridgeView}
-use Rattle.bridge_api.specs.Own.{member_of, local_of, body_of, own_of}
+use Rattle.bridge_api.specs.Own.{member_of, local_of, bodies_of, own_of}
 use Rattle.bridge_api.specs.Customers.{with_learned}
 use Rattle.bridge_api.specs.Services.{with_attached, with_port_forgotten}
 use Rattle.bridge_api.specs.Step.{Input, attach, detach}
 use Rattle.bridge_api.specs.Laws.{HasConfig, IsInput, attached_after}
 use Rattle.bridge_api.proofs.Attached.{config_after, learned_after}
+use Rattle.bridge_api.proofs.Bodies.{in_lsp}
 use Rattle.bridge_api.proofs.Changes.{attached_to, with_attached_is}
 use Rattle.bridge_api.proofs.OwnLspSteps.{saying_settles}
 use Rattle.bridge_api.proofs.Saying.{is_local}
@@ -110,20 +115,44 @@ less_beyond s port xs all x h = less_at s port xs x (is_at_other_port port x) re
 
 -- ---- the bridge says the same
 
-same_body : (v : BridgeView) (attached : List Attachment) (learned : Addresses) → IsLocal (local_of v) → IsLocal (local_of (attached_to attached v))
+-- a member of a system is what its pair makes it
+pair_makes : (x : SystemId) (ms : List Member) (m : Member) → Has m (merged x ms) → m ≡ member_for x (pair_of m)
+pair_makes x ms m h = let p = map_has (member_for x) m (pairs_of ms) h in p.2 ∙ ap (λ (k : Member). member_for x (pair_of k)) (sym p.2)
+
+into : (x : SystemId) (ms ns : List Member) → AllByRecursion IsAttached ns → ((m : Member) → Contains ms m → Contains ns m) → (m : Member) → Has m (merged x ms) → Has m (merged x ns)
+into x ms ns each within m h =
+    let p = merged_paired x ms m h in
+    let q = paired_merged x ns each p.item (has_from_contains p.item ns (within p.item (contains_from_has p.item ms p.has))) in
+    let same : q.item ≡ m = pair_makes x ns q.item q.has ∙ (ap (member_for x) (sym (p.is ∙ q.is)) ∙ sym (pair_makes x ms m h)) in
+    subst (λ k. Has k (merged x ns)) same q.has
+
+-- the services are the same
+same_services : (x : SystemId) (ms ns : List Member) → AllByRecursion IsAttached ms → AllByRecursion IsAttached ns → ((m : Member) → Contains ms m → Contains ns m) → ((m : Member) → Contains ns m → Contains ms m) → merged x ms ≡ merged x ns
+same_services x ms ns each_ms each_ns within beyond =
+    ascends_once service_number (merged x ms) (merged x ns) (merged_ascends x ms) (merged_ascends x ns) (into x ms ns each_ns within) (into x ns ms each_ms beyond)
+
+same_fragment : (l : Local) (ms ns : List Member) → merged l.config.id.system ms ≡ merged l.config.id.system ns → (k : ℕ) → fragment (record l { attached = ms }) k ≡ fragment (record l { attached = ns }) k
+unfolding fragment
+same_fragment l ms ns same zero = ap (λ (list : List Member). Some (content_bytes (record l { attached = take 60 (drop (60 * zero) list) }))) same
+same_fragment l ms ns same (suc k) =
+    ap (λ (list : List Member). unless_none (take 60 (drop (60 * suc k) list)) (service_tlvs (record l { attached = take 60 (drop (60 * suc k) list) }))) same
+
+same_fragments : (l : Local) (ms ns : List Member) → merged l.config.id.system ms ≡ merged l.config.id.system ns → (n k : ℕ) → fragments_from (record l { attached = ms }) n k ≡ fragments_from (record l { attached = ns }) n k
+same_fragments l ms ns same zero k = refl
+same_fragments l ms ns same (suc n) k =
+    let first = same_fragment l ms ns same k in
+    let rest = same_fragments l ms ns same n (k + 1) in
+    λ i. first i ∷ rest i
+
+same_bodies : (v : BridgeView) (attached : List Attachment) (learned : Addresses) → IsLocal (local_of v) → IsLocal (local_of (attached_to attached v))
     → ((a : Attachment) → Has a attached → IsCovered v.id.system a v.attached) → ((a : Attachment) → Has a v.attached → IsCovered v.id.system a attached)
-    → body_of (attached_to attached (with_learned learned v)) ≡ body_of v
-unfolding body_of
-same_body v attached learned before after within beyond =
+    → bodies_of (attached_to attached (with_learned learned v)) ≡ bodies_of v
+unfolding bodies_of
+same_bodies v attached learned before after within beyond =
     let s : SystemId = v.id.system in
-    let like : IsLike (local_of (attached_to attached v)) (local_of v) = record {
-      id = refl;
-      source = refl;
-      vids = λ p. (λ c. c, λ c. c);
-      neighbours = refl;
-      attached = λ m. (members_within s attached v.attached within m, members_within s v.attached attached beyond m);
-    } in
-    ap (λ (bytes : List ℕ). LEVEL_1 ∷ bytes) (same_is_written (local_of (attached_to attached v)) (local_of v) (order_says_nothing (local_of (attached_to attached v)) (local_of v) after before like))
+    let services : merged s (map (member_of s) attached) ≡ merged s (map (member_of s) v.attached) =
+    same_services s (map (member_of s) attached) (map (member_of s) v.attached) after.attached before.attached (members_within s attached v.attached within) (members_within s v.attached attached beyond) in
+    ap (λ (fragments : List (Option (List ℕ))). map in_lsp fragments) (same_fragments (local_of v) (map (member_of s) attached) (map (member_of s) v.attached) services own_numbers 0)
 
 says_still : (m n : Machine) (attached : List Attachment) (learned other : Addresses) → IsReady m → HasConfig (attached_to attached (with_learned other (view_of m))) → n ≡ machine_with m attached learned
     → ((a : Attachment) → Has a attached → IsCovered m.id.system a m.tenant.attached) → ((a : Attachment) → Has a m.tenant.attached → IsCovered m.id.system a attached)
@@ -131,13 +160,13 @@ says_still : (m n : Machine) (attached : List Attachment) (learned other : Addre
 says_still m n attached learned other ready config is within beyond =
     let v : BridgeView = view_of m in
     let w : BridgeView = attached_to attached (with_learned learned v) in
-    let same : body_of w ≡ body_of v = same_body v attached learned
+    let same : bodies_of w ≡ bodies_of v = same_bodies v attached learned
     (is_local v ready.sound.config ready.sound.few ready.sound.ports)
     (is_local (attached_to attached (with_learned other v)) config ready.sound.few ready.sound.ports) within beyond in
-    let says : own_of v ≡ own_of w = λ i. record { system = m.id.system; bodies = Some (sym same i) ∷ []; spent = m.own.spent } in
+    let says : own_of v ≡ own_of w = λ i. record { system = m.id.system; bodies = sym same i; spent = m.own.spent } in
     let follows = ready.current.ports in
     let whole : IsAfter (with_attached attached (with_learned learned v)) (machine_with m attached learned) = record {
-      view = sym (saying_settles w (λ fresh. (ready.sound.own.said fresh ∙ sym same, ready.sound.own.alive fresh))) ∙ sym (with_attached_is attached (with_learned learned v));
+      view = sym (saying_settles w (subst (λ (own : Own). AreCurrent (record { db = m.db; own = own })) says ready.sound.own.current)) ∙ sym (with_attached_is attached (with_learned learned v));
       current = record { own = ready.current.own ∙ says; ports = record { hellos = follows.hellos; up = follows.up; me = follows.me; heard = follows.heard } };
     } in
     subst (λ (k : Machine). IsAfter (with_attached attached (with_learned learned v)) k) (sym is) whole

@@ -1,12 +1,12 @@
 -- The bridge that a machine's fields say.
-use Rattle.std.specs.Prelude.{◌≡◌, ℕ, ◌+◌, ◌≤◌, List, [], ◌∷◌, length, true, false, Option, Some, None, if◌then◌else◌}
+use Rattle.std.specs.Prelude.{◌≡◌, ℕ, ◌+◌, ◌≤◌, List, [], ◌∷◌, length, false, Option, Some, None, if◌then◌else◌}
 use Rattle.spb_types.specs.declared.address.SystemId.{SystemId}
 use Rattle.spb_types.specs.declared.limits.TheConstants.{MOST_PORTS}
 use Rattle.flooding.specs.Room.{most_others, others}
 use Rattle.spb_content.specs.Local.{IsLocal}
 use Rattle.bridge_api.specs.declared.port.BridgePort.{BridgePort}
 use Rattle.bridge_api.specs.View.{BridgeView, IsPort, port_at, with_port_at, up_from}
-use Rattle.bridge_api.specs.Own.{local_of, own_of, body_of, IsOwnLspCurrent}
+use Rattle.bridge_api.specs.Own.{local_of, own_of, bodies_of, IsOwnLspCurrent}
 use Rattle.bridge_api.specs.Parsing.{Parsed}
 use Rattle.bridge_api.specs.Hearing.{heard_as}
 use Rattle.bridge_api.specs.Ticking.{hello_frame}
@@ -45,7 +45,7 @@ pub record FollowsPorts (m : Machine) : Type 0 where
   pub me : m.tenant.me ≡ m.id.system.mac
   pub heard : AreJudged m.id.system m.heard.items
 
--- the body that is kept of the own LSP is what the bridge has to say, and so are the hellos
+-- the bodies that are kept of own LSPs are what the bridge has to say, and so are the hellos
 pub record IsCurrent (m : Machine) : Type 0 where
   pub own : m.own ≡ own_of (view_of m)
   pub ports : FollowsPorts m
@@ -81,7 +81,7 @@ pub record IsPut (p : ℕ) (new : BridgePort) (old m : Machine) : Type 0 where
 
 -- the bridge says the same of itself with a port of this number in a new state
 abbrev pub SaysTheSame : ℕ → BridgePort → Machine → Type 0
-SaysTheSame p new m = body_of (with_port_at p new (view_of m)) ≡ body_of (view_of m)
+SaysTheSame p new m = bodies_of (with_port_at p new (view_of m)) ≡ bodies_of (view_of m)
 
 -- a bridge that hears this at a port of this number, which has carrier
 abbrev pub heard_by : Parsed → ℕ → Option BridgePort → BridgeView → BridgeView

@@ -44,12 +44,12 @@ impl Machine {
         self.tell()
     }
 
-    /// Makes the body of the own LSP anew, and originates if it says something else.
+    /// Makes the bodies of the own LSPs anew, and brings those up to date that say something else.
     fn tell(&mut self) -> Result<(), NoMemory>
         requires { CanTell self.old }
         ensures { OnOk result (IsAfter (api.originated_if_changed (view_of self.old)) self.new) }
     {
-        self.renew_body()?;
+        self.renew_bodies()?;
         self.originate_if_changed()
     }
 }

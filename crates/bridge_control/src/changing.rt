@@ -38,7 +38,7 @@ impl Machine {
             return self.keep(port, &new);
         }
         self.put(port, &new)?;
-        self.renew_body()?;
+        self.renew_bodies()?;
         self.originate_if_changed()
     }
 
@@ -64,7 +64,7 @@ impl Machine {
         }
     }
 
-    /// A port comes into a state in which the bridge says the same of itself, as its own LSP does.
+    /// A port comes into a state in which the bridge says the same of itself, as its own LSPs do.
     fn keep(&mut self, port: u8, new: &BridgePort) -> Result<(), NoMemory>
         requires can { CanPut port new.now self.old }
         requires same { SaysTheSame port new.now self.old }
@@ -84,7 +84,7 @@ impl Machine {
         };
         self.put(port, &undue)?;
         self.db.clear_port(port);
-        self.renew_body()?;
+        self.renew_bodies()?;
         self.originate_if_changed()
     }
 

@@ -190,7 +190,7 @@ impl Machine {
         self.change(port, new, heard)
     }
 
-    /// Hears an LSP at a port with carrier. It is looked for at the place `near` first. What is heard leaves the own LSP
+    /// Hears an LSP at a port with carrier. It is looked for at the place `near` first. What is heard leaves own LSPs
     /// saying what the bridge has to say, so that nothing is to be originated; and so it is with sequence numbers PDUs.
     fn hear_lsp(&mut self, port: u8, lsp: &Lsp<'_>, near: usize) -> Result<(), NoMemory>
         requires ready { IsReady self.old }

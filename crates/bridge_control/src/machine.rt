@@ -1,7 +1,9 @@
-//! What a configured bridge keeps, and its own LSP.
-ghost use Rattle.std.specs.Prelude.{◌≡◌, ◌≤◌, true, false, length, IfOk, OnOk};
-ghost use Rattle.spb_content.specs.Local.{IsLocal, content_bytes};
+//! What a configured bridge keeps, and its own LSPs.
+ghost use Rattle.std.specs.Prelude.{ℕ, ◌≡◌, ◌≤◌, ◌<◌, ◌∷◌, true, false, length, map, IfOk, OnOk};
+ghost use Rattle.std.specs.Option.{option_map};
+ghost use Rattle.spb_content.specs.Local.{IsLocal};
 ghost use Rattle.flooding.specs.Own.{own_numbers};
+ghost use Rattle.spb_types.specs.declared.level.TheConstants.{LEVEL_1};
 ghost use Rattle.flooding.specs.Room.{most_others, others};
 ghost use Rattle.flooding.specs.Placing.{holding};
 ghost use Rattle.flooding.specs.Settling.{is_said};
@@ -16,11 +18,11 @@ use crate::hello::hellos_of;
 use crate::ports::{attached_members, bare_ports, neighbours_at, up_ports};
 use bridge_api::{BridgeConfig, BridgePort, DropReason, Drops};
 use customer_learning::Learned;
-use flooding::{Own, begin_all, keep_fresh, settle};
+use flooding::{OWN_NUMBERS, Own, begin_all, keep_fresh, settle};
 use forwarding::Tenant;
 use lsdb::Database;
 use shared_frames::Frame;
-use spb_content::{BridgeConfigFacts, Local, content_of};
+use spb_content::{BridgeConfigFacts, Local, fragments_of};
 use spb_types::{BridgeId, LEVEL_1, Mac, NoMemory, PortSet, Seq, SourceId, SystemId, VidPlan};
 use std::alloc::Global;
 
@@ -32,8 +34,9 @@ const NO_ID: BridgeId = BridgeId {
     },
 };
 
-/// What a configured bridge keeps. Between calls the one body of `own` is what the bridge has to say of itself,
-/// `hellos` are the hellos of its ports with carrier, and `up` are those that are Up. What is kept of the hellos that came only saves reading them.
+/// What a configured bridge keeps. Between calls the bodies of `own` are what the bridge has to say of itself, `hellos`
+/// are the hellos of its ports with carrier, and `up` are those that are Up. What is kept of the hellos that came only
+/// saves reading them.
 #[derive(Drop)]
 pub(crate) struct Machine {
     pub(crate) alloc: Global,
@@ -89,12 +92,12 @@ impl Machine {
         ensures { IfOk result (IsAfter (config_specs.configured config.now)) }
     {
         let mut machine = Machine::bare(alloc, config)?;
-        machine.renew_body()?;
+        machine.renew_bodies()?;
         machine.begin(config.last.as_slice())?;
         Ok(machine)
     }
 
-    /// The machine of a whole configuration, which holds nothing yet and has no body of its own LSP.
+    /// The machine of a whole configuration, which holds nothing yet and has no bodies of own LSPs.
     fn bare(alloc: Global, config: &BridgeConfig) -> Result<Self, NoMemory>
         requires { config_specs.IsWhole config.now }
         ensures view { IfOk result (λ m. view_of m ≡ config_specs.bare config.now) }
@@ -154,30 +157,27 @@ impl Machine {
         })
     }
 
-    /// The body of the own LSP: the flags octet and then what the bridge says of itself.
-    #[tactic(auto, unfolding(bridge_api::specs::Own::body_of))]
-    fn body(&self) -> Result<Vec<u8>, NoMemory>
+    /// The bodies of the own LSPs, from number 0 on.
+    #[tactic(auto, unfolding(bridge_api::specs::Own::bodies_of, flooding::specs::Own::own_numbers))]
+    fn bodies(&self) -> Result<Vec<Option<Seq<u8>>>, NoMemory>
         requires few { length self.now.ports.items ≤ 32 }
         requires local { IsLocal (api.local_of (view_of self.now)) }
-        ensures { IfOk result (λ body. body.items ≡ api.body_of (view_of self.now)) }
+        ensures { IfOk result (λ bodies. bodies.items ≡ api.bodies_of (view_of self.now)) }
     {
         let local = self.local()?;
-        let content = own_content(self.alloc, &local)?;
-        let mut body = Vec::with_capacity(self.alloc, 1 + content.len())?;
-        body.push(LEVEL_1)?;
-        body.extend_from_slice(content.as_slice())?;
-        Ok(body)
+        let fragments = fragments_of(self.alloc, &local, OWN_NUMBERS)?;
+        bodies_of(self.alloc, fragments.as_slice())
     }
 
-    /// Makes the body of the own LSP anew, after an Up port, its neighbour or its metric changed.
-    pub(crate) fn renew_body(&mut self) -> Result<(), NoMemory>
+    /// Makes the bodies of the own LSPs anew, after an Up port, its neighbour, its metric or what is attached changed.
+    pub(crate) fn renew_bodies(&mut self) -> Result<(), NoMemory>
         requires few { length self.old.ports.items ≤ 32 }
         requires system { self.old.own.system ≡ self.old.id.system }
         requires local { IsLocal (api.local_of (view_of self.old)) }
         ensures { OnOk result (self.new ≡ record self.old { own = api.own_of (view_of self.old) }) }
     {
-        let body = self.body()?;
-        self.own.bodies = Seq::from_vec(vec![in self.alloc; Some(Seq::from_vec(body))]?);
+        let bodies = self.bodies()?;
+        self.own.bodies = Seq::from_vec(bodies);
         Ok(())
     }
 
@@ -214,7 +214,7 @@ impl Machine {
         begin_all(self.alloc, &mut self.db, &mut self.own, last)
     }
 
-    /// Originates where the own LSP that is held says something else than the bridge.
+    /// Brings own LSPs up to date that say something else than the bridge has to say.
     pub(crate) fn originate_if_changed(&mut self) -> Result<(), NoMemory>
         requires can { CanOriginate self.old }
         requires current { IsCurrent self.old }
@@ -223,12 +223,13 @@ impl Machine {
         settle(self.alloc, &mut self.db, self.up, &mut self.own)
     }
 
-    /// Originates where the own LSP says something else or is old, and tells whether it did. Only where its body was
-    /// renewed does it look whether the LSP says something else.
+    /// Brings own LSPs up to date that say something else or are old, and tells whether there was one. Only where their
+    /// bodies were renewed does it look whether they say something else.
     pub(crate) fn refresh(&mut self, renewed: bool) -> Result<bool, NoMemory>
         requires can { CanOriginate self.old }
         requires current { IsCurrent self.old }
-        requires said { renewed ≡ false → self.old.own.spent ≡ false → is_said (holding self.old.db self.old.own) 0 ≡ true }
+        requires said { renewed ≡ false → self.old.own.spent ≡ false → (number : ℕ) → number < own_numbers
+            → is_said (holding self.old.db self.old.own) number ≡ true }
         ensures after { OnOk result (IsAfter (ticking.refreshed (view_of self.old)) self.new) }
         ensures idle { IfOk result (λ originated. originated ≡ false → self.new.db ≡ self.old.db) }
     {
@@ -236,13 +237,27 @@ impl Machine {
     }
 }
 
-/// The TLVs of the own LSP: fragment 0, which always exists, and has all of at most 60 I-SIDs.
-fn own_content(alloc: Global, local: &Local) -> Result<Vec<u8>, NoMemory>
-    requires { IsLocal local.now }
-    ensures { IfOk result (λ content. content.items ≡ content_bytes local.now) }
+/// The bodies of LSPs that say these fragments.
+fn bodies_of(alloc: Global, fragments: &[Option<Vec<u8>>]) -> Result<Vec<Option<Seq<u8>>>, NoMemory>
+    ensures { IfOk result (λ bodies. bodies.items
+        ≡ map (option_map (λ tlvs. LEVEL_1 ∷ tlvs)) (map (option_map (λ v. v.items)) fragments.now)) }
 {
-    match content_of(alloc, local, 0)? {
-        Some(content) => Ok(content),
-        None => Ok(Vec::new(alloc)),
+    let mut bodies = Vec::with_capacity(alloc, fragments.len())?;
+    'put: for place in 0..fragments.len() {
+        bodies.push(body_of(alloc, &fragments[place])?)?;
     }
+    Ok(bodies)
+}
+
+/// The body of an LSP that says a fragment, if there is one: the flags octet and then its TLVs.
+fn body_of(alloc: Global, fragment: &Option<Vec<u8>>) -> Result<Option<Seq<u8>>, NoMemory>
+    ensures { IfOk result (λ body. body ≡ option_map (λ tlvs. LEVEL_1 ∷ tlvs) (option_map (λ v. v.items) fragment.now)) }
+{
+    let Some(tlvs) = fragment else {
+        return Ok(None);
+    };
+    let mut body = Vec::with_capacity(alloc, 1 + tlvs.len())?;
+    body.push(LEVEL_1)?;
+    body.extend_from_slice(tlvs.as_slice())?;
+    Ok(Some(Seq::from_vec(body)))
 }

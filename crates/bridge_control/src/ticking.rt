@@ -51,8 +51,8 @@ impl Machine {
         Ok(flags || originated)
     }
 
-    /// The holding counts fall, and it tells whether a neighbour is lost. Where one is, the hellos and the body of the
-    /// own LSP are made anew. Only the first ports, so many, have carrier.
+    /// The holding counts fall, and it tells whether a neighbour is lost. Where one is, the hellos and the bodies of
+    /// the own LSPs are made anew. Only the first ports, so many, have carrier.
     fn count(&mut self, used: usize) -> Result<bool, NoMemory>
         requires ready { IsReady self.old }
         requires within { used ≤ length self.old.ports.items }
@@ -64,7 +64,7 @@ impl Machine {
             return Ok(false);
         }
         self.renew_hellos()?;
-        self.renew_body()?;
+        self.renew_bodies()?;
         Ok(true)
     }
 }

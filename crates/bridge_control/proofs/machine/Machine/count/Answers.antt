@@ -15,20 +15,20 @@ renew_hellos-requires-clause-me c = c.requires.ready.current.ports.me
 pub renew_hellos-requires-clause-heard : goal.renew_hellos-requires-clause-heard
 renew_hellos-requires-clause-heard c = c.requires.ready.current.ports.heard
 
-pub renew_body-requires-clause-few : goal.renew_body-requires-clause-few
-renew_body-requires-clause-few c =
+pub renew_bodies-requires-clause-few : goal.renew_bodies-requires-clause-few
+renew_bodies-requires-clause-few c =
     let m = c.args.self.now in
     let is = counts_lowered_view_anew m c.renew_hellos.new.self c.count_down.new.ports c.count_down.new.db c.count_down.ensures.ports c.count_down.ensures.db c.in_ok-renew_hellos.ensures.view in
     counts_lowered_few_anew m c.renew_hellos.new.self c.requires.ready is
 
-pub renew_body-requires-clause-system : goal.renew_body-requires-clause-system
-renew_body-requires-clause-system c =
+pub renew_bodies-requires-clause-system : goal.renew_bodies-requires-clause-system
+renew_bodies-requires-clause-system c =
     let m = c.args.self.now in
     let is = counts_lowered_view_anew m c.renew_hellos.new.self c.count_down.new.ports c.count_down.new.db c.count_down.ensures.ports c.count_down.ensures.db c.in_ok-renew_hellos.ensures.view in
     counts_lowered_system_anew m c.renew_hellos.new.self c.requires.ready is c.in_ok-renew_hellos.ensures.own
 
-pub renew_body-requires-clause-local : goal.renew_body-requires-clause-local
-renew_body-requires-clause-local c =
+pub renew_bodies-requires-clause-local : goal.renew_bodies-requires-clause-local
+renew_bodies-requires-clause-local c =
     let m = c.args.self.now in
     let is = counts_lowered_view_anew m c.renew_hellos.new.self c.count_down.new.ports c.count_down.new.db c.count_down.ensures.ports c.count_down.ensures.db c.in_ok-renew_hellos.ensures.view in
     counts_lowered_local_anew m c.renew_hellos.new.self c.requires.ready is
@@ -37,4 +37,4 @@ pub returns-clause-after : goal.returns-clause-after
 returns-clause-after c =
     let m = c.args.self.now in
     let is = counts_lowered_view_anew m c.renew_hellos.new.self c.count_down.new.ports c.count_down.new.db c.count_down.ensures.ports c.count_down.ensures.db c.in_ok-renew_hellos.ensures.view in
-    counts_lowered_anew m c.renew_hellos.new.self c.renew_body.new.self c.in_ok-renew_hellos.ensures.ports is c.in_ok-renew_body.ensures
+    counts_lowered_anew m c.renew_hellos.new.self c.renew_bodies.new.self c.in_ok-renew_hellos.ensures.ports is c.in_ok-renew_bodies.ensures

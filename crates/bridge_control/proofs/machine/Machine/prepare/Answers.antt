@@ -17,7 +17,7 @@ refresh-requires-clause-current c =
     is.current
 
 pub refresh-requires-clause-said : goal.refresh-requires-clause-said
-refresh-requires-clause-said c = λ none fresh.
+refresh-requires-clause-said c = λ none fresh number below.
     let n = c.count.new.self in
     let is = expired_after (counts_lowered (view_of c.args.self.now)) n n.up c.age_one-flags.new.self c.in_ok-lost.ensures.after c.in_ok-lost.ensures.after.current.ports.up c.age_one-flags.ensures.aged in
-    idle_said c.args.self.now (record n { db = c.age_one-flags.new.self }) c.requires.ready is (sym c.in_ok-lost.ensures.lost ∙ none) fresh
+    idle_said c.args.self.now (record n { db = c.age_one-flags.new.self }) c.requires.ready is (sym c.in_ok-lost.ensures.lost ∙ none) fresh number below

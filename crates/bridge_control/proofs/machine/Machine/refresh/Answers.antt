@@ -1,8 +1,4 @@
 use Rattle.std.proofs.lemmas.Result.{on_ok_weaker}
-use Rattle.std.proofs.Common.{◌≡◌, true}
-use Rattle.flooding.specs.Placing.{holding}
-use Rattle.flooding.specs.Settling.{is_said}
-use Rattle.bridge_api.proofs.OneNumber.{first_is}
 use Rattle.bridge_control.proofs.Owning.{own_bytes, own_few, own_first, kept_fresh_after}
 use Rattle.bridge_control.proofs.machine.Machine.refresh.Goals as goal
 
@@ -16,7 +12,7 @@ pub keep_fresh-requires-clause-first : goal.keep_fresh-requires-clause-first
 keep_fresh-requires-clause-first c = own_first c.args.self.now c.requires.current
 
 pub keep_fresh-requires-clause-said : goal.keep_fresh-requires-clause-said
-keep_fresh-requires-clause-said c = λ same fresh. first_is (λ number. is_said (holding c.args.self.now.db c.args.self.now.own) number ≡ true) (c.requires.said same fresh)
+keep_fresh-requires-clause-said c = c.requires.said
 
 pub returns-clause-after : goal.returns-clause-after
 returns-clause-after c = on_ok_weaker c.keep_fresh.result (kept_fresh_after c.args.self.now c.args.self.now.up c.keep_fresh.new.db c.keep_fresh.new.own c.requires.current c.requires.current.ports.up) c.keep_fresh.ensures.after

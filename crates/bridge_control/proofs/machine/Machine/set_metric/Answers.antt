@@ -28,20 +28,20 @@ returns-then-not-is_up c =
 pub put-requires-clause-few : goal.put-requires-clause-few
 put-requires-clause-few c = c.requires.ready.sound.few
 
-pub renew_body-requires-clause-few : goal.renew_body-requires-clause-few
-renew_body-requires-clause-few c = put_few c.args.self.now c.put.new.self c.args.port (with_port_metric c.args.metric c.port_at-new.result) c.requires.ready.sound.few c.in_ok-put.ensures
+pub renew_bodies-requires-clause-few : goal.renew_bodies-requires-clause-few
+renew_bodies-requires-clause-few c = put_few c.args.self.now c.put.new.self c.args.port (with_port_metric c.args.metric c.port_at-new.result) c.requires.ready.sound.few c.in_ok-put.ensures
 
-pub renew_body-requires-clause-system : goal.renew_body-requires-clause-system
-renew_body-requires-clause-system c = put_system c.args.self.now c.put.new.self c.args.port (with_port_metric c.args.metric c.port_at-new.result) c.requires.ready.current c.in_ok-put.ensures
+pub renew_bodies-requires-clause-system : goal.renew_bodies-requires-clause-system
+renew_bodies-requires-clause-system c = put_system c.args.self.now c.put.new.self c.args.port (with_port_metric c.args.metric c.port_at-new.result) c.requires.ready.current c.in_ok-put.ensures
 
-pub renew_body-requires-clause-local : goal.renew_body-requires-clause-local
-renew_body-requires-clause-local c = with_metric_local c.args.self.now c.put.new.self c.args.port (with_port_metric c.args.metric c.port_at-new.result) c.requires.ready c.requires.metric c.in_ok-put.ensures
+pub renew_bodies-requires-clause-local : goal.renew_bodies-requires-clause-local
+renew_bodies-requires-clause-local c = with_metric_local c.args.self.now c.put.new.self c.args.port (with_port_metric c.args.metric c.port_at-new.result) c.requires.ready c.requires.metric c.in_ok-put.ensures
 
 pub originate_if_changed-requires-clause-can : goal.originate_if_changed-requires-clause-can
-originate_if_changed-requires-clause-can c = with_metric_can c.args.self.now c.put.new.self c.renew_body.new.self c.args.port (with_port_metric c.args.metric c.port_at-new.result) _ c.requires.ready c.in_ok-put.ensures c.in_ok-renew_body.ensures
+originate_if_changed-requires-clause-can c = with_metric_can c.args.self.now c.put.new.self c.renew_bodies.new.self c.args.port (with_port_metric c.args.metric c.port_at-new.result) _ c.requires.ready c.in_ok-put.ensures c.in_ok-renew_bodies.ensures
 
 pub originate_if_changed-requires-clause-current : goal.originate_if_changed-requires-clause-current
-originate_if_changed-requires-clause-current c = renewed_current c.put.new.self c.renew_body.new.self c.in_ok-put.ensures.ports c.in_ok-renew_body.ensures
+originate_if_changed-requires-clause-current c = renewed_current c.put.new.self c.renew_bodies.new.self c.in_ok-put.ensures.ports c.in_ok-renew_bodies.ensures
 
 pub returns : goal.returns
 returns c =
@@ -49,5 +49,5 @@ returns c =
     let port = c.port_at-new.result in
     let there = there_at m c.as_slice.result.now c.args.port port c.as_slice.ensures.value c.port_at-new.ensures in
     on_ok_weaker c.originate_if_changed.result
-    (after_same _ _ c.originate_if_changed.new.self (with_metric_path m c.put.new.self c.renew_body.new.self c.args.port c.args.metric port c.requires.port there c.in_ok-put.ensures c.in_ok-renew_body.ensures))
+    (after_same _ _ c.originate_if_changed.new.self (with_metric_path m c.put.new.self c.renew_bodies.new.self c.args.port c.args.metric port c.requires.port there c.in_ok-put.ensures c.in_ok-renew_bodies.ensures))
     c.originate_if_changed.ensures
