@@ -1,21 +1,14 @@
 -- The database of a bridge stays sound in every step.
-use Rattle.std.proofs.Common.{◌≡◌, ◌≢◌, inl, inr, ◌≤◌, ◌+◌, ◌-◌, ℕ, Bool, true, false, List, [], ◌∷◌, length, map, refl, sym, ap, ◌∙◌, subst, Option, Some, None, arith}
+use Rattle.std.proofs.Common.{◌≡◌, inl, inr, ◌≤◌, ◌-◌, ℕ, Bool, true, false, List, [], ◌∷◌, length, refl, sym, ap, ◌∙◌, subst, Some, arith}
 use Rattle.std.specs.Prelude.{◌==◌, slice_set, if◌then◌else◌, ◌++◌}
 use Rattle.std.proofs.lemmas.Bool.{le-leb}
 use Rattle.std.proofs.lemmas.List.{length-map, length-set}
 use Rattle.std.proofs.lemmas.Option.{slice_get_within}
-use Rattle.spb_types.specs.declared.address.SystemId.{SystemId}
-use Rattle.spb_types.specs.declared.address.LspId.{LspId}
-use Rattle.spb_types.specs.declared.ports.PortSet.{PortSet}
-use Rattle.spb_types.specs.Ports.{has, no_ports}
+use Rattle.spb_types.specs.Ports.{has}
 use Rattle.isis_pdu.specs.Pdu.{HelloValue}
 use Rattle.isis_pdu.specs.Grammar.{IsId}
 use Rattle.spb_tlvs.specs.declared.three_way.ThreeWay.{ThreeWay}
 use Rattle.customer_learning.specs.Known.{Addresses}
-use Rattle.lsdb.specs.Version.{number_of, is_absent}
-use Rattle.lsdb.specs.Entry.{Entry}
-use Rattle.lsdb.specs.Database.{id_cmp, version_in}
-use Rattle.flooding.specs.Hearing.{Holding}
 use Rattle.adjacency.specs.declared.state.AdjacencyChange.{AdjacencyChange}
 use Rattle.adjacency.specs.declared.state.AdjacencyChange.TheVariants.{Kept, CameUp, LeftUp, Discarded}
 use Rattle.adjacency.specs.declared.port.Adjacency.{Adjacency}
@@ -24,10 +17,9 @@ use Rattle.adjacency.specs.States.{next_state, state_numbered}
 use Rattle.adjacency.specs.Adjacency.{IsSound, state_towards, after_hello_heard, after_carrier, change_of}
 use Rattle.spb_types.specs.declared.service.Attachment.{Attachment}
 use Rattle.bridge_api.specs.declared.port.BridgePort.{BridgePort}
-use Rattle.bridge_api.specs.declared.config.BridgeConfig.{BridgeConfig}
-use Rattle.bridge_api.specs.View.{BridgeView, port_in, port_at, with_port_at, is_port_up, is_up_in, up_from, up_ports}
-use Rattle.bridge_api.specs.Own.{holding_of, originated_if_changed}
-use Rattle.bridge_api.specs.Config.{IsWhole, IsMetric, port_without_carrier, bare, configured}
+use Rattle.bridge_api.specs.View.{BridgeView, port_in, port_at, with_port_at, is_port_up, is_up_in, up_ports}
+use Rattle.bridge_api.specs.Own.{originated_if_changed}
+use Rattle.bridge_api.specs.Config.{IsMetric}
 use Rattle.bridge_api.specs.Hearing.{with_csnp_due, with_adjacency, left_up, all_srm_set_at, changed_at, heard_lsp, heard_csnp, heard_psnp, heard_hello, after_receive, with_carrier_at, with_carrier, with_port_metric, with_metric}
 use Rattle.bridge_api.specs.Ticking.{later, counts_lowered, expired, readied, after_tick}
 use Rattle.bridge_api.specs.Customers.{with_learned, after_entry}
@@ -38,10 +30,10 @@ use Rattle.bridge_api.proofs.Places.{got_at}
 use Rattle.bridge_api.proofs.Adjacent.{came_up, stayed_up, hello_sound, carrier_sound}
 use Rattle.bridge_api.proofs.Changes.{KeepsRest, found, LspStep, CsnpStep, PsnpStep, frame_step, idle, by_hello, by_lsp, by_csnp, by_psnp, carrier_step, metric_step, originated_if_changed_ports, tick_is, attached_to, with_attached_is}
 use Rattle.bridge_api.proofs.Attached.{config_after}
-use Rattle.bridge_api.proofs.SoundPorts.{AreSoundPorts, all_set, heard_six, carrier_six, with_metric_sound, sound_at, source_six, all_later, all_without_carrier, config_kept, bare_config}
+use Rattle.bridge_api.proofs.SoundPorts.{AreSoundPorts, all_set, heard_six, carrier_six, with_metric_sound, sound_at, source_six, all_later, config_kept}
 use Rattle.bridge_api.proofs.Saying.{has_body, can_say}
 use Rattle.bridge_api.proofs.OwnPorts.{bodies_text}
-use Rattle.bridge_api.proofs.Data.{Holds, few_of, lsps_of, CanOriginate, own_named, up_at, originated_if_changed_keeps, refreshed_keeps, lsp_keeps, csnp_keeps, psnp_keeps, moved_keeps, left_keeps, srm_set_at_keeps, counts_lowered_keeps, expired_keeps, after_sending_keeps}
+use Rattle.bridge_api.proofs.Data.{Holds, lsps_of, CanOriginate, own_named, up_at, originated_if_changed_keeps, refreshed_keeps, lsp_keeps, csnp_keeps, psnp_keeps, moved_keeps, left_keeps, srm_set_at_keeps, counts_lowered_keeps, expired_keeps, after_sending_keeps}
 use Rattle.bridge_api.proofs.Reading.{lsp_heard_at, csnp_heard_at, psnp_heard_at}
 
 -- a configured bridge with sound ports can originate

@@ -230,7 +230,7 @@ claims_said (parsing.csnp c) = claims_or_none (entries_in c.tlvs)
 claims_said (parsing.psnp s) = claims_or_none (entries_in s.tlvs)
 claims_said (parsing.customer da sa vid isid payload) = []
 
--- what is heard leaves a sound bridge nothing to originate: a claim of its own LSP is answered with what it has to say
+-- what is heard leaves a sound bridge nothing to originate: a claim of an own LSP is answered with what it has to say
 abbrev pub LspSettlesNothing : Type 0
 LspSettlesNothing = (v : BridgeView) (l : LspValue) (p : ℕ) → IsSoundView v
     → originated_if_changed (heard_lsp l p v) ≡ heard_lsp l p v

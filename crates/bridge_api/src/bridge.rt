@@ -57,7 +57,7 @@ pub trait Bridge: Drop {
 
     /// A second passes, in four steps (ISO/IEC 10589, 7.3.15 and 7.3.16). The holding counts fall, and at 0 a port goes
     /// Down. The lifetimes of what is held fall, and at 0 an LSP is dead and is sent at every Up port. The bridge
-    /// originates where its content changed or where its own lifetime is 300 or less, once for both. Then it sends at
+    /// originates each own LSP whose content changed or whose lifetime is 300 or less, once for both. Then it sends at
     /// each port with carrier, in ascending order, a hello, and at an Up one the CSNPs if they are due, the LSPs with
     /// SRM there, and PSNPs of those with SSN there.
     fn tick(&mut self, outbox: &mut Outbox) -> Result<(), NoMemory>

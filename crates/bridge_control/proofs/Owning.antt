@@ -1,5 +1,5 @@
 -- What a machine says of itself, and what it makes of its own LSPs.
-use Rattle.std.proofs.Common.{◌≡◌, ◌≤◌, inl, inr, ℕ, Bool, List, ◌∷◌, length, refl, sym, ap, ◌∙◌, subst, Option, Some, None, arith}
+use Rattle.std.proofs.Common.{◌≡◌, ◌≤◌, inl, inr, ℕ, Bool, List, length, refl, sym, ap, ◌∙◌, subst, Option, Some, None, arith}
 use Rattle.std.proofs.lemmas.Bool.{cases_lt}
 use Rattle.std.specs.Global.{Vec}
 use Rattle.spb_types.specs.declared.ports.PortSet.{PortSet}
@@ -16,7 +16,7 @@ use Rattle.flooding.proofs.Settled.{settling_leaves_own}
 use Rattle.spb_content.specs.Fragments.{fragment}
 use Rattle.spb_content.proofs.Parts.{fragments_are_first}
 use Rattle.bridge_api.specs.declared.port.BridgePort.{BridgePort}
-use Rattle.bridge_api.specs.View.{BridgeView, up_from, up_ports}
+use Rattle.bridge_api.specs.View.{BridgeView, up_from}
 use Rattle.bridge_api.specs.Own.{neighbours_from, local_of, bodies_of, own_of, holding_of, with_holding, after_begin, originated_if_changed}
 use Rattle.bridge_api.specs.Ticking.{refreshed}
 use Rattle.bridge_api.proofs.Changes.{settling}

@@ -26,20 +26,20 @@
 //!
 //! # Costs
 //!
-//! With p ports, n LSPs that are held and an own LSP of b bytes:
+//! With p ports, n LSPs that are held and own LSPs of b bytes together:
 //!
-//! - The body of the own LSP is kept. It is made anew, in time and memory of order p + b and for sorting what is
+//! - The bodies of the own LSPs are kept. They are made anew, in time and memory of order p + b and for sorting what is
 //!   attached, where a port comes Up or leaves Up, where any neighbour is lost, where the metric of an Up port is set,
 //!   even to what it was, and where the first customer port is attached to a service or the last one detached; no other
-//!   call makes it. Attaching and detaching look for another port of the service, in time of what is attached. A call
-//!   that made the body anew, and one that hears an LSP of the bridge itself or a sequence numbers PDU, compares it with
-//!   the one that is held: a binary search, and b bytes. Originating takes time and memory of order b.
+//!   call makes them. Attaching and detaching look for another port of the service, in time of what is attached. A call
+//!   that made the bodies anew compares them with what is held: a binary search for each own number, and b bytes.
+//!   Originating an LSP takes time and memory in proportion to its body.
 //! - The hello of each port is kept as a frame, and so is the set of the Up ports. A hello is made anew where the state,
 //!   the neighbour or its circuit changes at its port, in constant time and with memory for a few short vectors; the set
 //!   then goes over the ports once. Where a neighbour is lost in a second, the hellos of all ports are made anew.
 //! - A tick in which no flags stand and no neighbour is lost looks for the last port with carrier, from the last port
-//!   on, goes twice over the ports up to that one, and once over all; goes once over the database, looks up the own LSP
-//!   by a binary search, and compares no body, in time p + n. Each hello is the frame that is kept, of which no byte is
+//!   on, goes twice over the ports up to that one, and once over all; goes once over the database, looks up the own LSPs
+//!   that there are by a binary search each, and compares no body, in time p + n. Each hello is the frame that is kept, of which no byte is
 //!   copied, and takes no memory but its place in the outbox. Where flags stand or the bridge originated, it also goes
 //!   over the database once more, to find the places at which flags stand; and then over these places: twice to find
 //!   the ports with SRM and those with SSN; once to make the frames of the LSPs with SRM, which all ports share; once

@@ -1,7 +1,6 @@
 -- How far own LSPs go by what isn't a claim: each is originated once at most, and carrier that comes originates nothing.
-use Rattle.std.proofs.Common.{◌≡◌, inl, inr, ◌≤◌, ◌<◌, ◌+◌, ◌-◌, ℕ, zero, suc, Bool, true, false, List, [], ◌∷◌, refl, sym, ap, ◌∙◌, subst, Option, Some, arith}
+use Rattle.std.proofs.Common.{◌≡◌, inl, inr, ◌≤◌, ◌<◌, ◌+◌, ◌-◌, ℕ, zero, suc, Bool, true, false, List, [], ◌∷◌, refl, sym, ap, ◌∙◌, subst, Some, arith}
 use Rattle.std.specs.Prelude.{not, ◌&&◌, ◌==◌, slice_get, slice_set, if◌then◌else◌, ◌++◌}
-use Rattle.std.specs.FinMap.{get}
 use Rattle.std.proofs.lemmas.Bool.{true≢false, eq-eqb}
 use Rattle.std.proofs.lemmas.Slice.Eq.{bytes_eq-Decides}
 use Rattle.spb_types.specs.declared.address.SystemId.{SystemId}

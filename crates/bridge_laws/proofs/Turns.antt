@@ -14,8 +14,8 @@ use Rattle.lsdb.specs.Database.{version_in}
 use Rattle.flooding.specs.declared.own.Own.{Own}
 use Rattle.flooding.specs.Own.{last_number, own_numbers, own_number, body_of_number, renewed}
 use Rattle.flooding.specs.Hearing.{Holding}
-use Rattle.flooding.specs.Origination.{spent_entry, next_entry, next_own, brought_up}
-use Rattle.flooding.specs.Settling.{Test, own_held, stands, each_from, settled_by}
+use Rattle.flooding.specs.Origination.{spent_entry, next_entry, brought_up}
+use Rattle.flooding.specs.Settling.{Test, own_held, stands, settled_by}
 use Rattle.flooding.proofs.Brought.{next_of, brought_keeps, brought_is, next_stands, bringing_leaves_others, bringing_leaves_own}
 use Rattle.flooding.proofs.Folds.{folds_reach}
 use Rattle.flooding.proofs.Owns.{SameOwn}

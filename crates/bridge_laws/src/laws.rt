@@ -12,10 +12,10 @@ ghost use Rattle.bridge_laws.specs.Counting.{StepsHoldIds, StepsLearn, StepsLear
 
 use itag_frames::control_again;
 
-/// A configured bridge is sound, and stays so: unless its sequence numbers are spent, its own LSP is live for 301 to
-/// 1,200 seconds and says what the bridge has to say. It has the ports of its configuration and no carrier yet, and
-/// holds its own LSPs alone, each as it begins above the number that it had in the life before. What a sound bridge says
-/// of itself can be written, and fits one LSP.
+/// A configured bridge is sound, and stays so: unless its sequence numbers are spent, each own LSP in which it has
+/// something to say is live for 301 to 1,200 seconds and says that, and no other own LSP is live. It has the ports of
+/// its configuration and no carrier yet, and holds its own LSPs alone, each as it begins above the number that it had in
+/// the life before. What a sound bridge says of itself can be written, and fits its LSPs.
 pub fn bridges_are_sound()
     ensures configured { ConfiguredIsSound }
     ensures no_carrier { ConfiguredHasNoCarrier }
@@ -129,7 +129,7 @@ pub fn neighbours_come_up()
 /// A bridge that holds its own LSPs alone, each at number k at most, and hears hellos alone, holds them alone after a
 /// step, each at number k + 1 at most; and in a second it sends at each port at most three frames for each own number,
 /// and two. That is said below the last number, of a bridge whose sequence numbers aren't spent, such as a configured
-/// one in its first life, with its own LSPs at number 1 at most. Whatever else a bridge holds, a step brings no LSP but its own, and in a
+/// one, with its own LSPs at number 1 at most. Whatever else a bridge holds, a step brings no LSP but its own, and in a
 /// second it sends at each port at most three frames for each LSP that it holds then, and two.
 pub fn few_are_held_and_sent()
     ensures configured { ConfiguredHoldsFew }
@@ -159,9 +159,10 @@ pub fn silent_lsps_expire()
     ensures expire { LspsExpire }
 {}
 
-/// A second after which a sound bridge has the same to say, and its own lifetime is above 300, originates nothing. Each
-/// other originates: the own LSP stands one number further, or past the last one is dead, and then none originates any
-/// more. So a bridge just configured, in its first life, and left to itself originates every 900 seconds.
+/// A second after which a sound bridge has the same to say in an own LSP leaves it as it is while its lifetime is above
+/// 301. Every other in which it has something to say is originated, and stands one number further, unless one of a lower
+/// number had to go past the last sequence number: the first of these is dead instead, and from then on none is
+/// originated. So a bridge just configured and left to itself originates every 900 seconds.
 pub fn own_lsps_are_renewed()
     ensures still { SecondsStandStill }
     ensures renew { SecondsRenew }
@@ -191,7 +192,7 @@ pub fn numbers_rise_by_what_is_heard()
 {}
 
 /// Under an id of a bridge's own system, version and body stay in a step, or the number becomes greater, or the LSP is
-/// dead at a number that isn't lower. So, while it runs, no live version comes to stand there with a second body.
+/// dead at a number that isn't lower. So no live version comes to stand there with a second body.
 pub fn own_lsps_advance()
     ensures { StepsAdvance }
 {}
