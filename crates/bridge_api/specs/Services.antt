@@ -30,7 +30,7 @@ pub record CanAttach (v : BridgeView) (a : Attachment) : Type 0 where
 
 -- ---- what becomes of a bridge
 
--- a bridge to which this is attached, and which says so in its own LSP
+-- a bridge to which this is attached, and which says so in its own LSPs
 unfoldable pub with_attached : List Attachment → BridgeView → BridgeView
 with_attached attached v = originated_if_changed (record v { attached = attached })
 

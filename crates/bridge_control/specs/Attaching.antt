@@ -1,4 +1,4 @@
--- A machine to which something else is attached than its own LSP says.
+-- A machine to which something else is attached than its own LSPs say.
 use Rattle.std.specs.Prelude.{◌≡◌, ℕ, List, Bool, ◌&&◌, ◌||◌, ◌==◌}
 use Rattle.std.specs.List.{list_any}
 use Rattle.spb_types.specs.declared.service.Attachment.{Attachment}
