@@ -23,7 +23,7 @@ pub record IsServedAt (v : BridgeView) (p : ℕ) (frames : List (ℕ × List ℕ
       → AllByRecursion (λ c. IsSent frames p (csnp_frame v.id.system c)) (csnps_of v.id.system v.database)
   pub requests : AllByRecursion (λ s. IsSent frames p (psnp_frame v.id.system s)) (psnps_of v.id.system p v.database)
 
--- so it is in each second at each Up port, after the counts and lifetimes fell and own LSPs were brought up to date
+-- so it is in each second at each Up port, after the counts and lifetimes fell and the own LSPs were brought up to date
 abbrev pub SecondsServe : Type 0
 SecondsServe = (v : BridgeView) (p : ℕ) → IsSoundView v → is_up_at (readied v) p ≡ true
     → IsServedAt (readied v) p (sent second v)

@@ -34,7 +34,7 @@ use Rattle.bridge_api.specs.Laws.{IsSoundView}
 abbrev pub content_held : Lsps → SystemId → Option Content
 content_held db x = if is_live (version_at db (own_id x)) then Some (said_among (live_lsps db) x) else None
 
--- the graph of a bridge: what it reaches, and nothing where its own LSP isn't live
+-- the graph of a bridge: what it reaches, and nothing where its own LSP of number 0 isn't live
 abbrev pub IsOwnGraph : BridgeView → Graph → Type 0
 IsOwnGraph v g = IsGraphOf v.id.system (contents_of v) g
 

@@ -73,8 +73,8 @@ pub record HasConfig (v : BridgeView) : Type 0 where
   pub few_isids : length (different (map (λ a. a.isid.value) v.attached)) ≤ MOST_ISIDS
 
 -- the database: each LSP that is held can be written, and is read again as what is held; what an SNP says of it can be
--- written; flags stand at Up ports alone; the own id is held; no own number is held that is absent; and of the ids that
--- aren't own numbers no more are held than have room
+-- written; flags stand at Up ports alone; number 0 of the bridge's own is held, and no own number as absent; and of the
+-- ids that aren't own numbers no more are held than have room
 pub record HasDatabase (v : BridgeView) : Type 0 where
   pub sendable : AreSendable v.database
   pub sized : AreSized v.database
@@ -231,6 +231,7 @@ claims_said (parsing.psnp s) = claims_or_none (entries_in s.tlvs)
 claims_said (parsing.customer da sa vid isid payload) = []
 
 -- what is heard leaves a sound bridge nothing to originate: a claim of an own LSP is answered with what it has to say
+-- there, or dead
 abbrev pub LspSettlesNothing : Type 0
 LspSettlesNothing = (v : BridgeView) (l : LspValue) (p : ℕ) → IsSoundView v
     → originated_if_changed (heard_lsp l p v) ≡ heard_lsp l p v

@@ -51,8 +51,8 @@ counts_lowered v = record v {
 abbrev pub expired : BridgeView → BridgeView
 expired v = record v { database = each (λ id e. aged (up_ports v) e) v.database }
 
--- 3. the bridge originates where its content changed or where its LSP is old, once for both reasons
--- (ISO/IEC 10589, 7.3.7 and 7.3.16)
+-- 3. the bridge originates each own LSP in which it has something else to say or that is old, once for both reasons,
+--    and purges each in which it has nothing to say (ISO/IEC 10589, 7.3.7 and 7.3.16)
 unfoldable pub refreshed : BridgeView → BridgeView
 refreshed v = with_holding (kept_fresh (up_ports v) (holding_of v)) v
 

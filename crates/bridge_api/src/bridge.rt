@@ -56,10 +56,11 @@ pub trait Bridge: Drop {
         ensures kind { (shown self.new).kind ≡ (shown self.old).kind };
 
     /// A second passes, in four steps (ISO/IEC 10589, 7.3.15 and 7.3.16). The holding counts fall, and at 0 a port goes
-    /// Down. The lifetimes of what is held fall, and at 0 an LSP is dead and is sent at every Up port. The bridge
-    /// originates each own LSP whose content changed or whose lifetime is 300 or less, once for both. Then it sends at
-    /// each port with carrier, in ascending order, a hello, and at an Up one the CSNPs if they are due, the LSPs with
-    /// SRM there, and PSNPs of those with SSN there.
+    /// Down. The lifetimes of what is held fall, and at 0 an LSP is dead and is sent at every Up port. The bridge goes
+    /// over its own LSPs by number: it originates each in which it has something else to say, or that has a lifetime of
+    /// 300 or less, once for both, and purges each in which it has nothing to say any more. Then it sends at each port
+    /// with carrier, in ascending order, a hello, and at an Up one the CSNPs if they are due, the LSPs with SRM there,
+    /// and PSNPs of those with SSN there.
     fn tick(&mut self, outbox: &mut Outbox) -> Result<(), NoMemory>
         requires { (shown self.old).blank ≡ false }
         ensures view { OnOk result ((shown self.new).view ≡ after_tick (shown self.old).view) }
@@ -140,7 +141,7 @@ pub trait Bridge: Drop {
         ensures kind { (shown self.new).kind ≡ (shown self.old).kind };
 
     /// Attaches a customer port to a service, an I-SID in a base VID (IEEE 802.1ah, 25.10). The port is free and 1 to
-    /// 64; the I-SID is 1 to 16,777,215; the VID is one of the bridge, and that of the other ports of the I-SID; and
+    /// 1,024; the I-SID is 1 to 16,777,215; the VID is one of the bridge, and that of the other ports of the I-SID; and
     /// there are at most 960 I-SIDs afterwards. The bridge originates if it has something else to say.
     fn attach(&mut self, port: u16, isid: Isid, vid: Vid) -> Result<(), NoMemory>
         requires made { (shown self.old).blank ≡ false }

@@ -12,8 +12,8 @@ use std::alloc::Global;
 ///
 /// It is whole where there are at most 32 ports and a metric of 1 to 16,777,214 for each; at most 16 base VIDs, which
 /// differ and are 1 to 4094, with ECT numbers 1 to 16; a system id with the group bit clear that isn't all zero; a
-/// source below 1,048,576; attached ports that differ and are 1 to 1,024, with at most 960 I-SIDs, each 1 to 16,777,215 and
-/// in a single one of the base VIDs; and as many numbers of the life before as a bridge has own LSPs.
+/// source below 1,048,576; attached ports that differ and are 1 to 1,024, with at most 960 I-SIDs, each 1 to 16,777,215
+/// and in a single one of the base VIDs; and as many numbers of the life before as a bridge has own LSPs.
 #[derive(Debug, Drop)]
 pub struct BridgeConfig {
     pub id: BridgeId,

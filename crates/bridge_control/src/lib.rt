@@ -32,21 +32,22 @@
 //!   attached, where a port comes Up or leaves Up, where any neighbour is lost, where the metric of an Up port is set,
 //!   even to what it was, and where the first customer port is attached to a service or the last one detached; no other
 //!   call makes them. Attaching and detaching look for another port of the service, in time of what is attached. A call
-//!   that made the bodies anew compares them with what is held: a binary search for each own number, and b bytes.
-//!   Originating an LSP takes time and memory in proportion to its body.
+//!   that made the bodies anew compares them with those that are held: a binary search for each of the 16 own numbers,
+//!   and b bytes. Originating takes time and memory of the bytes of the LSPs that are originated. What is heard in LSPs
+//!   and sequence numbers PDUs makes no such comparison.
 //! - The hello of each port is kept as a frame, and so is the set of the Up ports. A hello is made anew where the state,
 //!   the neighbour or its circuit changes at its port, in constant time and with memory for a few short vectors; the set
 //!   then goes over the ports once. Where a neighbour is lost in a second, the hellos of all ports are made anew.
 //! - A tick in which no flags stand and no neighbour is lost looks for the last port with carrier, from the last port
-//!   on, goes twice over the ports up to that one, and once over all; goes once over the database, looks up the own LSPs
-//!   that there are by a binary search each, and compares no body, in time p + n. Each hello is the frame that is kept, of which no byte is
-//!   copied, and takes no memory but its place in the outbox. Where flags stand or the bridge originated, it also goes
-//!   over the database once more, to find the places at which flags stand; and then over these places: twice to find
-//!   the ports with SRM and those with SSN; once to make the frames of the LSPs with SRM, which all ports share; once
-//!   for each Up port with SRM, to send the frames of those to be sent there; and twice for each Up port with SSN, for
-//!   the entries and to clear these. It goes over the database once for each port at which CSNPs are due and for each
-//!   at which a neighbour is lost. Memory is taken for these places and for their frames, for each LSP with SRM once,
-//!   and for each CSNP and PSNP.
+//!   on, goes twice over the ports up to that one, and once over all; goes once over the database, looks up each own
+//!   LSP that has a body by a binary search, and compares no body, in time p + n. Each hello is the frame that is kept,
+//!   of which no byte is copied, and takes no memory but its place in the outbox. Where flags stand or the bridge
+//!   originated, it also goes over the database once more, to find the places at which flags stand; and then over these
+//!   places: twice to find the ports with SRM and those with SSN; once to make the frames of the LSPs with SRM, which
+//!   all ports share; once for each Up port with SRM, to send the frames of those to be sent there; and twice for each
+//!   Up port with SSN, for the entries and to clear these. It goes over the database once for each port at which CSNPs
+//!   are due and for each at which a neighbour is lost. Memory is taken for these places and for their frames, for each
+//!   LSP with SRM once, and for each CSNP and PSNP.
 //! - A hello takes time in proportion to its length. The one that came last to a port is kept there: where the same
 //!   frame comes again it is compared, and not read or kept again. One that only begins the holding count anew changes
 //!   its port and nothing else. Memory is taken where another hello comes than the last time, for its frame, and where one changes

@@ -13,8 +13,8 @@ ghost use Rattle.bridge_laws.specs.Counting.{StepsHoldIds, StepsLearn, StepsLear
 use itag_frames::control_again;
 
 /// A configured bridge is sound, and stays so: unless its sequence numbers are spent, each own LSP in which it has
-/// something to say is live for 301 to 1,200 seconds and says that, and no other own LSP is live. It has the ports of
-/// its configuration and no carrier yet, and holds its own LSPs alone, each as it begins above the number that it had in
+/// something to say is live for 301 to 1,200 seconds and says that, and no other is live. It has the ports of its
+/// configuration and no carrier yet, and holds its own LSPs alone, each as it begins above the number that it had in
 /// the life before. What a sound bridge says of itself can be written, and fits its LSPs.
 pub fn bridges_are_sound()
     ensures configured { ConfiguredIsSound }
@@ -84,8 +84,9 @@ pub fn seconds_serve_neighbours()
 /// A bridge reads its graph from the live LSPs that it holds, of each system what they say together, if the one of
 /// number 0 is among them. A sound one reads of itself what it has to say, unless its sequence numbers are spent, and
 /// each neighbour at a port of its own. Of another sound one whose numbers aren't spent it reads what that one has to
-/// say, where it holds the same of its system. It says each neighbour at a port that is Up, with the metric there, and no other; and that it is a member of
-/// each service to which a customer port is attached, in the VID of the port, and of no other.
+/// say, where it holds the same of its system. It says each neighbour at a port that is Up, with the metric there, and
+/// no other; and that it is a member of each service to which a customer port is attached, in the VID of the port, and
+/// of no other.
 pub fn graphs_are_read_from_what_is_held()
     ensures held { ReadsWhatIsHeld }
     ensures once { ReadsEachOnce }
@@ -129,8 +130,8 @@ pub fn neighbours_come_up()
 /// A bridge that holds its own LSPs alone, each at number k at most, and hears hellos alone, holds them alone after a
 /// step, each at number k + 1 at most; and in a second it sends at each port at most three frames for each own number,
 /// and two. That is said below the last number, of a bridge whose sequence numbers aren't spent, such as a configured
-/// one, with its own LSPs at number 1 at most. Whatever else a bridge holds, a step brings no LSP but its own, and in a
-/// second it sends at each port at most three frames for each LSP that it holds then, and two.
+/// one in its first life, with its own LSPs at number 1 at most. Whatever else a bridge holds, a step brings no LSP but
+/// its own, and in a second it sends at each port at most three frames for each LSP that it holds then, and two.
 pub fn few_are_held_and_sent()
     ensures configured { ConfiguredHoldsFew }
     ensures steps { StepsHoldFew }
@@ -150,19 +151,20 @@ pub fn silent_neighbours_are_lost()
     control_again();
 }
 
-/// In a second an LSP that isn't the own one keeps its version and body, or is dead at its number. Where nothing comes
-/// to the bridge, a live one stays as it is for the seconds of its lifetime, and is then dead, to be sent at every Up
-/// port.
+/// In a second an LSP under an id that is no own number keeps its version and body, or is dead at its number. Where
+/// nothing comes to the bridge, a live one stays as it is for the seconds of its lifetime, and is then dead, to be sent
+/// at every Up port.
 pub fn silent_lsps_expire()
     ensures age { SecondsAge }
     ensures last { LspsLast }
     ensures expire { LspsExpire }
 {}
 
-/// A second after which a sound bridge has the same to say in an own LSP leaves it as it is while its lifetime is above
-/// 301. Every other in which it has something to say is originated, and stands one number further, unless one of a lower
-/// number had to go past the last sequence number: the first of these is dead instead, and from then on none is
-/// originated. So a bridge just configured and left to itself originates every 900 seconds.
+/// Of a sound bridge whose sequence numbers aren't spent: a second after which it has the same to say in an own LSP,
+/// whose lifetime is then above 300, leaves that one as it is. Any other in which it has something to say is
+/// originated: it stands one sequence number further, while no lower one has to go past the last. The first that has to
+/// is dead instead, and no later second originates. So a bridge just configured, in its first life, and left to itself
+/// originates each own LSP in which it has something to say every 900 seconds.
 pub fn own_lsps_are_renewed()
     ensures still { SecondsStandStill }
     ensures renew { SecondsRenew }

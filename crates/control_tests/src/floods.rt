@@ -275,7 +275,7 @@ fn no_number_comes_after_the_last(rt: HostRuntime) {
     check_row(&rt, &db, &id, row(dead(u32::MAX), 0, 1, 0b111, 0b110));
 }
 
-/// A database without a place but for an own number: 4,080 live LSPs of other ids.
+/// A database with places for own numbers alone: 4,080 live LSPs of other ids.
 fn full(rt: &impl Abort, alloc: Global) -> Database {
     let mut db = Database::new(alloc);
     for number in 0..4080 {

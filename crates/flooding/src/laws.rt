@@ -84,8 +84,8 @@ pub fn settling_keeps_what_steps_keep()
     ensures silence { SettlingKeepsSilence }
 {}
 
-/// After they were brought up to date each own LSP that the system has a body for is live with it for 301 to 1,200 seconds
-/// more, and no other is live, unless the system is spent. What is heard keeps it so, and then each stands.
+/// After they were brought up to date each own LSP that the system has a body for is live with it for 301 to 1,200
+/// seconds more, and no other is live, unless the system is spent. What is heard keeps it so, and then each stands.
 pub fn own_lsps_are_current()
     ensures settled { SettledIsCurrent }
     ensures fresh { FreshIsCurrent }
@@ -94,8 +94,8 @@ pub fn own_lsps_are_current()
     ensures entry { EntryKeepsCurrent }
 {}
 
-/// Under an id of the own system no body comes to stand but the one that the system has for its number, or that of a dead
-/// LSP.
+/// Under an id of the own system no body comes to stand but the one that the system has for its number, or that of a
+/// dead LSP.
 pub fn own_bodies_are_the_systems()
     ensures lsp { LspLeavesOwnBody }
     ensures entry { EntryLeavesOwnBody }
@@ -161,8 +161,8 @@ pub fn a_life_begins_above_the_one_before()
 {}
 
 /// While few ids are held that aren't own numbers, an own number has a place in the database, and another id has one
-/// until 4,080 are held, as many as leave it to the own numbers. Few they stay, whatever is heard, changed and brought up to
-/// date.
+/// until 4,080 are held, as many as leave it to the own numbers. Few they stay, whatever is heard, changed and brought
+/// up to date.
 pub fn own_numbers_have_room()
     ensures many { most_others ≡ 4080 }
     ensures few { FewOwn }

@@ -3,7 +3,9 @@
 //!
 //! An LSP that is heard takes one binary search, or one comparison where its place was given, and a second search where
 //! it is put into the database or purged; its body is copied once, and only where it is stored. Originating takes two,
-//! and copies the body once. No call copies the database.
+//! and copies the body once. Bringing own LSPs up to date looks for each own number. Where 4,080 ids are held or more,
+//! a new id that isn't an own number takes a walk over the database, which counts such ids. No call copies the
+//! database.
 #![tactic(auto)]
 
 pub use error::FloodError;

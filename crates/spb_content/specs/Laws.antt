@@ -77,7 +77,7 @@ pub record Fits (bytes : List ℕ) : Type 0 where
   pub whole : IsTrue (is_whole bytes)
   pub short : fixed_length kinds.Lsp + length bytes ≤ 1267
 
--- with at most 32 ports, the LSP of a bridge has at most 1,267 bytes
+-- with at most 32 ports and 60 I-SIDs, all that a bridge says makes an LSP of at most 1,267 bytes
 abbrev pub OwnFits : Type 0
 OwnFits = (l : Local) → IsPart l → HasFields l → AreConfigured l → length l.neighbours ≤ MOST_PORTS
     → Fits (content_bytes l)

@@ -1,4 +1,4 @@
--- What a bridge says of itself in its LSP (RFC 6329, 13 to 16).
+-- What a bridge says of itself in its LSPs (RFC 6329, 13 to 16).
 use Rattle.std.specs.Prelude.{◌≡◌, ℕ, ◌+◌, ◌/◌, ◌≤◌, ◌<◌, List, [], ◌∷◌, ◌++◌, length, map, filter, flat_map, true, Some, ◌==◌, ⊤}
 use Rattle.std.specs.List.{AllByRecursion}
 use Rattle.std.specs.Simd.{first_chunks}
@@ -67,7 +67,7 @@ said_by l = record {
   services = flat_map (λ v. map (λ s. (own_mac l, v, s)) (services_in v l.attached)) (vids_in l.attached);
 }
 
--- ---- how it is written: the TLVs of the own LSP, in order
+-- ---- how it is written: the TLVs of one LSP, in order
 
 -- the area addresses, of which there is one, 49.0001 (ISO/IEC 10589, 9.8)
 abbrev pub areas : List ℕ

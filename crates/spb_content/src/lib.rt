@@ -1,4 +1,4 @@
-//! What a bridge says of itself in its LSP, and the graph that the LSPs of a backbone make (RFC 6329, 13 to 16).
+//! What a bridge says of itself in its LSPs, and the graph that the LSPs of a backbone make (RFC 6329, 13 to 16).
 //!
 //! [`content_of`] writes the TLVs of the own LSP of a number, a fragment of what the bridge says, and [`fragments_of`]
 //! those of the first numbers. [`read_content`] reads the TLVs of any LSP, and [`said_graph_of`] makes the graph of what

@@ -19,11 +19,11 @@
 //! it. `show` makes the bridge's tables anew. `wiring` makes them of the fabric of the wiring (`fdb_build`), which is
 //! made at the first such question, and kept with what was searched in it until a base VID, a bridge, a link, a metric
 //! or what is attached changes. `path` makes the graph that the bridge reads and one tree in it, and looks through the
-//! bridges once for each name. An `attach` goes over what is attached at its bridge once, and where 60 ports or more
-//! are, once more for each of them, and a `detach` twice; neither takes memory for that. A `frame` goes over what is
-//! attached at its bridge once. What leaves at customer ports takes memory for its place in the answer, and is handed
-//! over with it; where nothing leaves, none is taken. Where deliveries are watched, each takes memory for its seconds
-//! and a handle of its frame; where they aren't, it costs a test of a flag.
+//! bridges once for each name. An `attach` goes over what is attached at its bridge once, and where 960 ports or more
+//! are, sorts their I-SIDs too, on the stack, and a `detach` goes over it twice; neither takes memory for that. A
+//! `frame` goes over what is attached at its bridge once. What leaves at customer ports takes memory for its place in
+//! the answer, and is handed over with it; where nothing leaves, none is taken. Where deliveries are watched, each
+//! takes memory for its seconds and a handle of its frame; where they aren't, it costs a test of a flag.
 #![tactic(auto)]
 
 pub use apply_error::ApplyError;

@@ -23,10 +23,10 @@ pub fn group_addresses_differ()
     ensures { GroupAddressesDiffer }
 {}
 
-/// The limits of what is declared, held and played are 96 bridges, 400 links, 32 backbone ports and 1,024 customer ports,
-/// 960 I-SIDs of a bridge, 4,096 services, 1,024 addresses of an I-SID, 16 base VIDs, 65,535 bridges of a graph, 4,096
-/// LSPs, 1,024 frames in a lane, 20,000 rounds, and 1,000,000 deliveries of a drain and 100,000,000 of a script; the
-/// greatest base VID is 4,094, the greatest ECT number 16, the greatest I-SID 16,777,215, the greatest metric
+/// The limits of what is declared, held and played are 96 bridges, 400 links, 32 backbone ports and 1,024 customer
+/// ports, 960 I-SIDs of a bridge, 4,096 services, 1,024 addresses of an I-SID, 16 base VIDs, 65,535 bridges of a graph,
+/// 4,096 LSPs, 1,024 frames in a lane, 20,000 rounds, and 1,000,000 deliveries of a drain and 100,000,000 of a script;
+/// the greatest base VID is 4,094, the greatest ECT number 16, the greatest I-SID 16,777,215, the greatest metric
 /// 16,777,214, and SPSourceIDs are below 1,048,576. Definitions name these constants.
 pub fn limits_are_these()
     ensures bridges { MOST_BRIDGES ≡ 96 }
