@@ -279,7 +279,7 @@ fn no_number_comes_after_the_last(rt: HostRuntime) {
 fn full(rt: &impl Abort, alloc: Global) -> Database {
     let mut db = Database::new(alloc);
     for number in 0..4080 {
-        put_held(rt, alloc, &mut db, lsp_id(number, 1), live(7, 9));
+        put_held(rt, alloc, &mut db, lsp_id(number, 16), live(7, 9));
     }
     db
 }
@@ -303,7 +303,7 @@ fn a_full_database_takes_own_numbers_alone(rt: HostRuntime) {
     assert!(rt; hear(&rt, alloc, &mut db, up, 1, &mine, &mut own).is_ok());
     assert!(rt; db.version_at(&own.id(0)).number() == 4 && db.len() == 4081);
     assert!(rt; hear(&rt, alloc, &mut db, up, 1, &more, &mut own) == Err(FloodError::Full));
-    let known = lsp(lsp_id(0, 1), (8, 30, 5));
+    let known = lsp(lsp_id(0, 16), (8, 30, 5));
     assert!(rt; hear(&rt, alloc, &mut db, up, 1, &known, &mut own).is_ok());
     assert!(rt; db.version_at(&known.id) == live(8, 5));
 }
