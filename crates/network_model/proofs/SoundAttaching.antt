@@ -54,8 +54,8 @@ attach_refusal_none w i port isid h =
     let free = reason_unless-none (not (is_attached w.attached i port)) _ (or-second _ _ h) in
     record {
       port_low = le-true 1 port (and-left _ _ range);
-      port_high = le-true port 64 (and-right _ _ range);
-      room = le-true (length (isids_with (attached_at w i) isid)) 60 room;
+      port_high = le-true port MOST_CUSTOMER_PORTS (and-right _ _ range);
+      room = le-true (length (isids_with (attached_at w i) isid)) MOST_ISIDS room;
       free = All-map (λ x. ((x.0 == i) && (x.1.port == port)) ≡ false) (λ x. x.0 ≡ i → x.1.port ≢ port) w.attached (elsewhere i port) (All-none (λ x. (x.0 == i) && (x.1.port == port)) w.attached (not-true _ free));
     }
 
@@ -68,7 +68,7 @@ unfolding detach_refusal is_customer_port
 detach_refusal_none w i port h =
     let range = reason_unless-none (is_customer_port port) _ (or-first _ _ h) in
     record {
-      port_high = le-true port 64 (and-right _ _ range);
+      port_high = le-true port MOST_CUSTOMER_PORTS (and-right _ _ range);
       taken = reason_unless-none (is_attached w.attached i port) _ (or-second _ _ h);
     }
 

@@ -27,7 +27,7 @@ entry_refusal_none w i port bytes h =
     let range = reason_unless-none (is_customer_port port && is_customer_frame bytes) _ (or-first _ _ h) in
     let frame = and-right (is_customer_port port) (is_customer_frame bytes) range in
     record {
-      port_high = le-true port 64 (and-right _ _ (and-left (is_customer_port port) (is_customer_frame bytes) range));
+      port_high = le-true port MOST_CUSTOMER_PORTS (and-right _ _ (and-left (is_customer_port port) (is_customer_frame bytes) range));
       frame = record { low = le-true 14 (length bytes) (and-left _ _ frame); high = le-true (length bytes) 2000 (and-right _ _ frame) };
       taken = reason_unless-none (is_attached w.attached i port) _ (or-second _ _ h);
     }

@@ -7,6 +7,7 @@ use Rattle.std.proofs.lemmas.Bool.Decides.{Decides-at, Decides-like, Decides-not
 use Rattle.std.proofs.lemmas.List.Folds.{Any-from_list_any, list_any-from_Any}
 use Rattle.std.proofs.lemmas.Iterator.Adapters.{position_from-zero}
 use Rattle.std.proofs.lemmas.Slice.Eq.{bytes_eq-Decides}
+use Rattle.spb_types.specs.declared.limits.TheConstants.{MOST_CUSTOMER_PORTS, MOST_ISIDS}
 use Rattle.spb_types.specs.declared.address.Mac.{Mac}
 use Rattle.spb_types.specs.declared.service.Attachment.{Attachment}
 use Rattle.spb_types.specs.declared.service.SourceId.{SourceId}
@@ -171,18 +172,18 @@ undeclared_isid w isid = fails (is_declared_isid w.services isid) (declared_isid
 
 pub wrong_port : (port : ℕ) → Decides (not (is_customer_port port)) (¬ IsCustomerPort port)
 unfolding is_customer_port
-wrong_port port = fails (nat_le 1 port && nat_le port 64) (Decides-and _ _ (le-is 1 port) (le-is port 64))
+wrong_port port = fails (nat_le 1 port && nat_le port MOST_CUSTOMER_PORTS) (Decides-and _ _ (le-is 1 port) (le-is port MOST_CUSTOMER_PORTS))
 
 pub wrong_entry : (port : ℕ) (bytes : List ℕ) → Decides (not (is_customer_port port && is_customer_frame bytes)) (¬ (IsCustomerPort port × IsCustomerFrame bytes))
 unfolding is_customer_port is_customer_frame
 wrong_entry port bytes =
     fails (is_customer_port port && is_customer_frame bytes)
-    (Decides-and _ _ (Decides-and _ _ (le-is 1 port) (le-is port 64))
+    (Decides-and _ _ (Decides-and _ _ (le-is 1 port) (le-is port MOST_CUSTOMER_PORTS))
     (Decides-like (is_customer_frame bytes) (λ h. record { low = h.0; high = h.1 }) (λ h. (h.low, h.high)) (Decides-and _ _ (le-is 14 (length bytes)) (le-is (length bytes) 2000))))
 
-pub full_of_isids : (attached : List Attachment) (isid : ℕ) → Decides (not (has_isid_room attached isid)) (60 < length (isids_with attached isid))
+pub full_of_isids : (attached : List Attachment) (isid : ℕ) → Decides (not (has_isid_room attached isid)) (MOST_ISIDS < length (isids_with attached isid))
 unfolding has_isid_room
-full_of_isids attached isid = not-le (length (isids_with attached isid)) 60
+full_of_isids attached isid = not-le (length (isids_with attached isid)) MOST_ISIDS
 
 attached-is : (w : World) (i port : ℕ) → Decides (is_attached w.attached i port) (HasAttached w i port)
 attached-is w i port =
