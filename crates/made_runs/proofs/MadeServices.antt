@@ -3,6 +3,7 @@ use Rattle.std.proofs.Common.{◌≡◌, ◌⊎◌, inl, inr, ℕ, suc, ◌+◌,
 use Rattle.std.specs.Prelude.{nat_eq, is_none}
 use Rattle.std.proofs.lemmas.Bool.{ne_eqb, eq-eqb, eqb-true}
 use Rattle.std.specs.List.{AllByRecursion, list_any, filter_map, cons_option}
+use Rattle.spb_types.specs.declared.limits.TheConstants.{MOST_CUSTOMER_PORTS, MOST_ISIDS}
 use Rattle.spb_types.specs.declared.service.Attachment.{Attachment}
 use Rattle.spb_types.specs.declared.service.Isid.{Isid}
 use Rattle.spb_types.specs.declared.service.Vid.{Vid}
@@ -177,7 +178,7 @@ isid_room w n a b c place isid apart all =
     let r = at_most_one (is_attached w.attached place 3) in
     let same = length-isids (attached_at w place) in
     let kinds = few_different (isid ∷ isids_of (attached_at w place)) in
-    le-yes (length (isids_with (attached_at w place) isid)) 60 (omega arith)
+    le-yes (length (isids_with (attached_at w place) isid)) MOST_ISIDS (omega arith)
 
 -- ---- one is attached
 
@@ -187,7 +188,7 @@ unfolding attach_refusal is_customer_port
 new_member w n a b c place port isid v apart all found low high free =
     or_none _ _ (or_none _ _ (or_none _ _
     (reason_none _ NoSuchName (ap is_some found))
-    (reason_none _ Range (and-yes _ _ (le-yes 1 port low) (le-yes port 64 (omega arith)))))
+    (reason_none _ Range (and-yes _ _ (le-yes 1 port low) (le-yes port MOST_CUSTOMER_PORTS (omega arith)))))
     (reason_none _ TooMany (isid_room w n a b c place isid apart all)))
     (reason_none _ Attached (ap not (none_passes (IsMember n a b c) (λ x. (x.0 == place) && (x.1.port == port)) w.attached all free)))
 
