@@ -1,6 +1,8 @@
-use Rattle.std.proofs.Common.{sym, ◌∙◌, arith}
+use Rattle.std.proofs.Common.{sym, ap, ◌∙◌, arith}
+use Rattle.std.specs.FinMap.{get}
 use Rattle.flooding.specs.Own.{own_numbers}
 use Rattle.flooding.specs.Placing.{holding}
+use Rattle.flooding.specs.Settling as settling
 use Rattle.flooding.proofs.Rest.{young_next}
 use Rattle.flooding.proofs.settling.has_old.Goals as goal
 
@@ -9,7 +11,7 @@ loop-number-init c = (omega arith, λ number below. absurd (omega (arith, below)
 
 pub loop-number-preserved : goal.loop-number-preserved
 loop-number-preserved c =
-    (omega (arith, c.loop-number-test.true), young_next (holding c.args.db.now c.args.own.now) c.loop-number.number c.loop-number.invariant.1 (sym c.is_old.ensures ∙ c.if-is_old.false))
+    (omega (arith, c.loop-number-test.true), young_next (holding c.args.db.now c.args.own.now) c.loop-number.number c.loop-number.invariant.1 (ap settling.is_old (sym (c.find.ensures.entry ∙ ap (get c.args.db.now) c.id.ensures)) ∙ sym c.is_old.ensures ∙ c.if-is_old.false))
 
 pub returns : goal.returns
 unfolding own_numbers
