@@ -124,7 +124,11 @@ fn stands(db: &Database, own: &Own, first: usize, number: u8, by_age: bool) -> b
     ensures { result ≡ settling.stands (if by_age then settling.is_new else settling.says) (holding db.now own.now) number }
 {
     let body = own.body(number);
-    let held = held_near(db, first.saturating_add(usize::from(number)), &own.id(number));
+    let held = held_near(
+        db,
+        first.saturating_add(usize::from(number)),
+        &own.id(number),
+    );
     says(body, held) && !(by_age && body.is_some() && is_old(held))
 }
 
@@ -171,11 +175,11 @@ fn has_old(db: &Database, own: &Own) -> bool
     ensures { result ≡ false → (number : ℕ) → number < own_numbers
         → (is_some (body_of_number own.now number) && settling.is_old (settling.own_held (holding db.now own.now) number)) ≡ false }
 {
-    for number in 0..OWN_NUMBERS {
-        if own.body(number).is_none() {
+    for next in 0..OWN_NUMBERS {
+        if own.body(next).is_none() {
             return false;
         }
-        if is_old(db.find(&own.id(number))) {
+        if is_old(db.find(&own.id(next))) {
             return true;
         }
     }
