@@ -21,7 +21,8 @@ use Rattle.lsdb.proofs.LookupLemmas.{tied_is, below_at, true_from_T}
 use Rattle.flooding.specs.Own.{own_numbers, own_number, is_own_number, body_of_number}
 use Rattle.flooding.specs.Hearing.{Holding}
 use Rattle.flooding.specs.Origination.{brought_up}
-use Rattle.flooding.specs.Settling.{own_held, says, is_new, stands, NoneAbove}
+use Rattle.flooding.specs.Settling.{own_held, says, is_new, stands}
+use Rattle.flooding.specs.HeldNumbers.{NoneAbove}
 use Rattle.flooding.proofs.OwnNumbers.{its_own, number_is_own, other_number}
 use Rattle.flooding.proofs.Brought.{bringing_leaves_own, bringing_leaves_others}
 use Rattle.flooding.proofs.Room.{lower_first, numbered}

@@ -18,10 +18,6 @@ use Rattle.flooding.specs.declared.origination.TheConstants.{MAX_AGE}
 abbrev pub own_held : Holding → ℕ → Option Entry
 own_held h number = get h.db (own_number h.own.system number)
 
--- no own number above this one is held
-abbrev pub NoneAbove : ℕ → Holding → Type 0
-NoneAbove last h = (number : ℕ) → last < number → number < own_numbers → own_held h number ≡ None
-
 -- ---- tests of an own LSP
 
 -- by a test of the body that the system has for a number, and of what is held under it, the number stands or doesn't

@@ -9,6 +9,7 @@ ghost use Rattle.flooding.specs.Own.{own_numbers, own_number, body_of_number, Ha
 ghost use Rattle.flooding.specs.Hearing.{HasFewOthers};
 ghost use Rattle.flooding.specs.Placing.{holding};
 ghost use Rattle.flooding.specs.Settling as settling;
+ghost use Rattle.flooding.specs.HeldNumbers.{NoneAbove};
 
 use crate::Own;
 use crate::origination::bring_up;
@@ -99,7 +100,7 @@ fn bring_all_up(
 /// stand behind it, and the greatest of them is the answer.
 fn last_held(db: &Database, own: &Own, first: Option<usize>) -> u8
     requires { StandsAt db.now (own_number own.now.system 0) first }
-    ensures { settling.NoneAbove result (holding db.now own.now) }
+    ensures { NoneAbove result (holding db.now own.now) }
 {
     let Some(first) = first else {
         return OWN_NUMBERS;

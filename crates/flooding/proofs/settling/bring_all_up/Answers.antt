@@ -1,4 +1,4 @@
-use Rattle.std.proofs.Common.{rules, ◌≡◌, None, sym, ap, subst, ◌∙◌, arith, true, false, ◌+◌, if◌then◌else◌}
+use Rattle.std.proofs.Common.{rules, ℕ, ◌≡◌, ◌<◌, None, sym, ap, subst, ◌∙◌, arith, true, false, ◌+◌, if◌then◌else◌}
 use Rattle.std.proofs.lemmas.Bool.{true≢false}
 use Rattle.flooding.specs.Own.{own_numbers, body_of_number, HaveBytes}
 use Rattle.flooding.specs.Hearing.{Holding, HasFewOthers}
@@ -13,7 +13,7 @@ use Rattle.flooding.proofs.settling.bring_all_up.Goals as goal
 
 pub bring_up-requires-clause-number : goal.bring_up-requires-clause-number
 unfolding own_numbers
-bring_up-requires-clause-number c = c.loop-number-test.true
+bring_up-requires-clause-number c = omega (arith, c.loop-number-test.true)
 
 pub bring_up-requires-clause-few : goal.bring_up-requires-clause-few
 bring_up-requires-clause-few c = c.loop-number.invariant.1.1.0.0
@@ -26,7 +26,8 @@ unfolding own_numbers
 loop-number-preserved c =
     let test : Test = if c.args.by_age then is_new else says in
     let g : Holding = holding c.loop-number.db c.loop-number.own in
-    let number = c.loop-number.number in
+    let number : ℕ = c.loop-number.number in
+    let below : number < own_numbers = omega (arith, c.loop-number-test.true) in
     let last = c.last_held-last.result in
     let before = c.loop-number.invariant in
     elim c.if-not-stands.branch [
@@ -35,10 +36,10 @@ loop-number-preserved c =
             omega (arith, c.loop-number-test.true),
             (
               ap (rest_of test c.args.up (number + 1)) whole
-                  ∙ (sym (next_rest test c.args.up number g false c.loop-number-test.true (sym c.stands.ensures ∙ w.if-not-stands.true)) ∙ before.1.0),
+                  ∙ (sym (next_rest test c.args.up number g false below (sym c.stands.ensures ∙ w.if-not-stands.true)) ∙ before.1.0),
               (
                 (
-                  subst HasFewOthers (sym whole) (bringing_keeps_few c.args.up number g c.loop-number-test.true before.1.1.0.0),
+                  subst HasFewOthers (sym whole) (bringing_keeps_few c.args.up number g below before.1.1.0.0),
                   subst (λ (x : Holding). HaveBytes x.own) (sym whole) (still_bytes c.args.up number g before.1.1.0.1),
                 ),
                 (
@@ -53,7 +54,7 @@ loop-number-preserved c =
             omega (arith, c.loop-number-test.true),
             (
               ap (rest_of test c.args.up (number + 1)) whole
-                  ∙ (sym (next_rest test c.args.up number g true c.loop-number-test.true (sym c.stands.ensures ∙ w.if-not-stands.false)) ∙ before.1.0),
+                  ∙ (sym (next_rest test c.args.up number g true below (sym c.stands.ensures ∙ w.if-not-stands.false)) ∙ before.1.0),
               (
                 (subst HasFewOthers (sym whole) before.1.1.0.0, subst (λ (x : Holding). HaveBytes x.own) (sym whole) before.1.1.0.1),
                 (
@@ -70,14 +71,15 @@ unfolding own_numbers
 loop-number-preserved-then-is_none c =
     let test : Test = if c.args.by_age then is_new else says in
     let g : Holding = holding c.loop-number.db c.loop-number.own in
-    let number = c.loop-number.number in
+    let number : ℕ = c.loop-number.number in
+    let below : number < own_numbers = omega (arith, c.loop-number-test.true) in
     let last = c.last_held-last.result in
     let before = c.loop-number.invariant in
     let body : body_of_number g.own number ≡ None = search rules in
-    let held : own_held g number ≡ None = before.1.1.1.0 number (omega (arith, c.if-number-last.true)) (omega arith) (omega (arith, c.loop-number-test.true)) in (
+    let held : own_held g number ≡ None = before.1.1.1.0 number (omega (arith, c.if-number-last.true)) (omega arith) below in (
       omega (arith, c.loop-number-test.true),
       (
-        sym (next_rest test c.args.up number g true c.loop-number-test.true (idle_stands c.args.by_age g number body held)) ∙ before.1.0,
+        sym (next_rest test c.args.up number g true below (idle_stands c.args.by_age g number body held)) ∙ before.1.0,
         (before.1.1.0, (none_next last number g before.1.1.1.0, before.1.1.1.1)),
       ),
     )
