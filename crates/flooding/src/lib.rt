@@ -3,9 +3,9 @@
 //!
 //! An LSP that is heard takes one binary search, or one comparison where its place was given, and a second search where
 //! it is put into the database or purged; its body is copied once, and only where it is stored. Originating takes two,
-//! and copies the body once. While the LSP of number 0 is held, telling whether own LSPs are up to date takes one search,
-//! and two comparisons for each of them that is held; a number that has no body and isn't held takes none. No call copies
-//! the database.
+//! and copies the body once. Telling whether own LSPs are up to date takes one search, and two comparisons for each that
+//! is held, while those that have a body are held and none is missing between two numbers; a number that has no body, and
+//! above which none is held either, takes none. No call copies the database.
 #![tactic(auto)]
 
 pub use error::FloodError;
