@@ -31,7 +31,7 @@ first_tie Greater r e = absurd (cc)
 same_bytes : (s : SystemId) → slice_cmp nat_cmp s.mac.bytes s.mac.bytes ≡ Equal
 same_bytes s = first_tie (slice_cmp nat_cmp s.mac.bytes s.mac.bytes) _ (tied_same (own_number s 0) (own_number s 0) refl)
 
-lower_first : (s : SystemId) (m n : ℕ) → m < n → id_cmp (own_number s m) (own_number s n) ≡ Less
+pub lower_first : (s : SystemId) (m n : ℕ) → m < n → id_cmp (own_number s m) (own_number s n) ≡ Less
 lower_first s m n less = ap (λ o. ordering_then o (ordering_then (nat_cmp 0 0) (nat_cmp m n))) (same_bytes s) ∙ cmp_less m n less
 
 rising : (s : SystemId) (m n : ℕ) → id_cmp (own_number s m) (own_number s n) ≡ Less → m < n
@@ -46,11 +46,11 @@ rising s m n less =
 
 -- ---- which ids are own numbers
 
-record Numbered (s : SystemId) (id : LspId) : Type 0 where
-  below : id.number < own_numbers
-  is : id ≡ own_number s id.number
+pub record Numbered (s : SystemId) (id : LspId) : Type 0 where
+  pub below : id.number < own_numbers
+  pub is : id ≡ own_number s id.number
 
-numbered : (s : SystemId) (id : LspId) → is_own_number s id ≡ true → Numbered s id
+pub numbered : (s : SystemId) (id : LspId) → is_own_number s id ≡ true → Numbered s id
 numbered s id own =
     let parts = and_parts (same_system id.system s) ((id.pseudonode == 0) && nat_lt id.number own_numbers) own in
     let rest = and_parts (id.pseudonode == 0) (nat_lt id.number own_numbers) parts.1 in

@@ -3,9 +3,10 @@
 //!
 //! An LSP that is heard takes one binary search, or one comparison where its place was given, and a second search where
 //! it is put into the database or purged; its body is copied once, and only where it is stored. Originating takes two,
-//! and copies the body once. Bringing own LSPs up to date looks for each own number. Where 4,080 ids are held or more,
-//! a new id that isn't an own number takes a walk over the database, which counts such ids. No call copies the
-//! database.
+//! and copies the body once. Telling whether own LSPs are up to date takes one search, and two comparisons for each that
+//! is held, while those that have a body are held and none is missing between two numbers; a number that has no body, and
+//! above which none is held either, takes none. Where 4,080 ids are held or more, a new id that isn't an own number takes a
+//! walk over the database, which counts such ids. No call copies the database.
 #![tactic(auto)]
 
 pub use error::FloodError;

@@ -1,15 +1,21 @@
 //! Own LSPs, brought up to date.
 ghost use Rattle.std.specs.Prelude.{ℕ, ◌≡◌, ◌≤◌, ◌<◌, ◌&&◌, not, true, false, length, is_some, if◌then◌else◌, OnOk, IfOk};
-ghost use Rattle.flooding.specs.Own.{own_numbers, body_of_number, HaveBytes, HasFirstNumbers};
+ghost use Rattle.std.specs.Option.{option_map, option_copied};
+ghost use Rattle.std.specs.FinMap.{get};
+ghost use Rattle.lsdb.specs.Entry.{entry_of};
+ghost use Rattle.lsdb.specs.Database.{version_in, StandsAt};
+ghost use Rattle.lsdb.specs.Time.{is_live};
+ghost use Rattle.flooding.specs.Own.{own_numbers, own_number, body_of_number, HaveBytes, HasFirstNumbers};
 ghost use Rattle.flooding.specs.Hearing.{HasFewOthers};
 ghost use Rattle.flooding.specs.Placing.{holding};
 ghost use Rattle.flooding.specs.Settling as settling;
+ghost use Rattle.flooding.specs.HeldNumbers.{NoneAbove};
 
 use crate::Own;
 use crate::origination::bring_up;
 use crate::own::OWN_NUMBERS;
-use lsdb::{Database, Version};
-use spb_types::{NoMemory, PortSet, Seq};
+use lsdb::{Database, Held, Version};
+use spb_types::{LspId, NoMemory, PortSet, Seq};
 use std::alloc::Global;
 
 /// The remaining lifetime in seconds at which an own LSP is originated anew (ISO/IEC 10589, 7.3.7).
@@ -56,7 +62,8 @@ pub fn keep_fresh(
 }
 
 /// Brings each number up to what the system says that doesn't stand, by what its LSP says or, where `by_age`, also by
-/// its lifetime; and tells whether there was one.
+/// its lifetime; and tells whether there was one. A number that is neither held nor has a body stands, and isn't looked
+/// up.
 #[tactic(auto, unfolding(crate::specs::Settling::settled_by))]
 fn bring_all_up(
     alloc: Global,
@@ -75,8 +82,13 @@ fn bring_all_up(
     if own.spent {
         return Ok(false);
     }
+    let first = db.look_up(&own.id(0)).place;
+    let last = last_held(db, own, first);
     for number in 0..OWN_NUMBERS {
-        if !stands(db, own, number, by_age) {
+        if number > last && own.body(number).is_none() {
+            continue;
+        }
+        if !stands(db, own, first.unwrap_or(0), number, by_age) {
             bring_up(alloc, db, up, own, number)?;
             brought = true;
         }
@@ -84,23 +96,59 @@ fn bring_all_up(
     Ok(brought)
 }
 
-/// Whether the own LSP of a number stands, by what it says or, where `by_age`, also by its lifetime.
-fn stands(db: &Database, own: &Own, number: u8, by_age: bool) -> bool
-    ensures { result ≡ settling.stands (if by_age then settling.is_new else settling.says) (holding db.now own.now) number }
+/// A number above which none is held. `first` is the place of number 0, if it is held: then the others that are held
+/// stand behind it, and the greatest of them is the answer.
+fn last_held(db: &Database, own: &Own, first: Option<usize>) -> u8
+    requires { StandsAt db.now (own_number own.now.system 0) first }
+    ensures { NoneAbove result (holding db.now own.now) }
 {
-    is_said(db, own, number) && !(by_age && own.body(number).is_some() && is_old(db, own, number))
+    let Some(first) = first else {
+        return OWN_NUMBERS;
+    };
+    let len = db.len();
+    let mut last = 0;
+    for place in first + 1..len {
+        let Some(held) = db.at(place) else {
+            return last;
+        };
+        if !own.has_number(&held.id) {
+            return last;
+        }
+        last = held.id.number;
+    }
+    last
 }
 
-/// Whether the own LSP of a number that is held is live with its body; where there is none, whether it isn't live.
-fn is_said(db: &Database, own: &Own, number: u8) -> bool
-    ensures { result ≡ settling.is_said (holding db.now own.now) number }
+/// Whether the own LSP of a number stands, by what it says or, where `by_age`, also by its lifetime. It is looked for so
+/// many places behind `first` before any other.
+fn stands(db: &Database, own: &Own, first: usize, number: u8, by_age: bool) -> bool
+    ensures { result ≡ settling.stands (if by_age then settling.is_new else settling.says) (holding db.now own.now) number }
 {
-    let held = db.find(&own.id(number));
-    match own.body(number) {
-        None => match held {
-            None => true,
-            Some(held) => !matches!(held.version, Version::Live { .. }),
-        },
+    let body = own.body(number);
+    let held = held_near(
+        db,
+        first.saturating_add(usize::from(number)),
+        &own.id(number),
+    );
+    says(body, held) && !(by_age && body.is_some() && is_old(held))
+}
+
+/// The LSP under an id, which is looked for at the place `near` before any other.
+fn held_near<'a>(db: &'a Database, near: usize, id: &LspId) -> Option<&'a Held>
+    ensures { option_map entry_of (option_copied result) ≡ get db.now id.now }
+{
+    match db.look_up_near(near, id).place {
+        Some(place) => db.at(place),
+        None => None,
+    }
+}
+
+/// Whether what is held is live with this body; where there is none, whether it isn't live.
+fn says(body: Option<&Seq<u8>>, held: Option<&Held>) -> bool
+    ensures { result ≡ settling.says (option_copied body.entry) (option_map entry_of (option_copied held.entry)) }
+{
+    match body {
+        None => !is_live(held),
         Some(body) => match held {
             None => false,
             Some(held) => {
@@ -111,6 +159,16 @@ fn is_said(db: &Database, own: &Own, number: u8) -> bool
     }
 }
 
+/// Whether an LSP is held that is live.
+fn is_live(held: Option<&Held>) -> bool
+    ensures { result ≡ is_live (version_in (option_map entry_of (option_copied held.entry))) }
+{
+    match held {
+        None => false,
+        Some(held) => matches!(held.version, Version::Live { .. }),
+    }
+}
+
 /// Whether an own LSP with a body has to be originated anew by its lifetime. No number is looked at behind the first
 /// without a body.
 fn has_old(db: &Database, own: &Own) -> bool
@@ -118,22 +176,22 @@ fn has_old(db: &Database, own: &Own) -> bool
     ensures { result ≡ false → (number : ℕ) → number < own_numbers
         → (is_some (body_of_number own.now number) && settling.is_old (settling.own_held (holding db.now own.now) number)) ≡ false }
 {
-    for number in 0..OWN_NUMBERS {
-        if own.body(number).is_none() {
+    for next in 0..OWN_NUMBERS {
+        if own.body(next).is_none() {
             return false;
         }
-        if is_old(db, own, number) {
+        if is_old(db.find(&own.id(next))) {
             return true;
         }
     }
     false
 }
 
-/// Whether the own LSP of a number has to be originated anew by its lifetime.
-fn is_old(db: &Database, own: &Own, number: u8) -> bool
-    ensures { result ≡ settling.is_old (settling.own_held (holding db.now own.now) number) }
+/// Whether what is held has to be originated anew by its lifetime.
+fn is_old(held: Option<&Held>) -> bool
+    ensures { result ≡ settling.is_old (option_map entry_of (option_copied held.entry)) }
 {
-    match db.find(&own.id(number)) {
+    match held {
         Some(held) => held.lifetime <= REFRESH_AT,
         None => false,
     }
