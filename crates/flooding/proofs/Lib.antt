@@ -25,3 +25,4 @@ pub mod Fits
 pub mod Few
 pub mod Begun
 pub mod Started
+pub mod Octets

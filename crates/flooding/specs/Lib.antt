@@ -12,3 +12,4 @@ pub mod SettlingLaws
 pub mod Room
 pub mod RoomLaws
 pub mod Starting
+pub mod OctetLaws
