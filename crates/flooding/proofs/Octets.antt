@@ -110,7 +110,7 @@ brought_octets up number h says all =
     (λ seq sum live. all_changed HasOctets (purged seq up) h.db (own_number h.own.system number) all (λ e is. dead_octets))
 
 -- a system with the same bodies says octets too
-says_then : (own next : Own) → next.bodies ≡ own.bodies → SaysOctets own → SaysOctets next
+pub says_then : (own next : Own) → next.bodies ≡ own.bodies → SaysOctets own → SaysOctets next
 says_then own next same says number body is = says number body (ap (λ (bs : List (Option (List ℕ))). option_and_then (λ body. body) (slice_get bs number)) (sym same) ∙ is)
 
 -- ---- the laws
