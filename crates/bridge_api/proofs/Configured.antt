@@ -20,6 +20,7 @@ use Rattle.flooding.specs.Starting.{started_by, started_as, started_all, is_last
 use Rattle.flooding.proofs.OwnNumbers.{some_number}
 use Rattle.flooding.proofs.Few.{others_are_held}
 use Rattle.flooding.proofs.Begun.{starting_is_alone}
+use Rattle.flooding.proofs.Octets.{starting_keeps_octets}
 use Rattle.flooding.proofs.Started.{starting_keeps_sendable, starting_keeps_flags, starting_keeps_few, starting_leaves_own_body}
 use Rattle.snp_sync.proofs.Fields.{starting_keeps_sized}
 use Rattle.bridge_api.specs.declared.config.BridgeConfig.{BridgeConfig}
@@ -143,6 +144,7 @@ configured_holds c whole =
     record {
       sendable = starting_keeps_sendable c.last h can.body (all_of_none _);
       sized = starting_keeps_sized c.last h (omega (arith, whole.last)) whole.each_last can.named (all_of_none _);
+      octets = starting_keeps_octets c.last h can.octets (all_of_none _);
       flags = starting_keeps_flags c.last (up_ports v) h (all_of_none _);
       own = own_there c whole;
       present = λ number below. starting_present c.last h (own_number c.id.system number) (none_present (own_number c.id.system number));

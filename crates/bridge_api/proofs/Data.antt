@@ -13,7 +13,7 @@ use Rattle.spb_types.specs.declared.ports.PortSet.{PortSet}
 use Rattle.spb_types.specs.Ports.{has, with_port, without_port}
 use Rattle.spb_types.proofs.PortLemmas.{has_port, has-with_other, has-without_same, has-without_other}
 use Rattle.isis_pdu.specs.Pdu.{LspValue, CsnpValue, lsp}
-use Rattle.isis_pdu.specs.Grammar.{IsId, HasFields}
+use Rattle.isis_pdu.specs.Grammar.{IsId, IsBytes, HasFields}
 use Rattle.spb_tlvs.specs.declared.entries.SnpEntry.{SnpEntry}
 use Rattle.lsdb.specs.declared.version.Version.{Version}
 use Rattle.lsdb.specs.declared.version.Version.TheVariants.{Absent, Live, Dead}
@@ -26,11 +26,13 @@ use Rattle.flooding.specs.Own.{own_numbers, own_number, own_id, body_in}
 use Rattle.flooding.specs.Room.{most_others, others}
 use Rattle.flooding.specs.Hearing.{Holding, HasFewOthers, claim_of, lsp_rule, hear_lsp_of}
 use Rattle.flooding.specs.Settling.{Test, settled_by, says, is_new}
-use Rattle.flooding.specs.Entries.{AllEntries, IsNumbered, IsSendable, HasFlagsAt, AreSendable, HaveFlagsAt}
+use Rattle.flooding.specs.Entries.{AllEntries, IsNumbered, IsSendable, HasFlagsAt, AreSendable, HaveFlagsAt, HaveOctets}
 use Rattle.flooding.specs.Laws.{HasBodies, IsWhole, control}
+use Rattle.flooding.specs.OctetLaws.{SaysOctets}
 use Rattle.flooding.proofs.SendableEntries.{flags_sendable, lsp_keeps_sendable, ageing_keeps_sendable}
 use Rattle.flooding.proofs.OwnBodies.{lsp_leaves_own_body}
 use Rattle.flooding.proofs.FlagEntries.{lsp_keeps_flags}
+use Rattle.flooding.proofs.Octets.{lsp_keeps_octets, settling_keeps_octets, ageing_keeps_octets}
 use Rattle.flooding.proofs.Steps.{hearing_lsp}
 use Rattle.flooding.proofs.Owns.{own_stands}
 use Rattle.flooding.proofs.Few.{changing_keeps_others, hearing_keeps_few, settling_keeps_few}
@@ -42,6 +44,7 @@ use Rattle.snp_sync.specs.Hearing.{claims_in, hear_entries_of, hear_csnp_of}
 use Rattle.snp_sync.proofs.Fields.{flags_keep_sized, entries_keep_sized, csnp_keeps_sized, lsp_keeps_sized, settling_keeps_sized, ageing_keeps_sized}
 use Rattle.snp_sync.proofs.Stays.{claims_are_numbered, entries_leave_own, entries_keep_sendable, csnp_keeps_sendable, entries_keep_flags, csnp_keeps_flags, entries_leave_own_body, csnp_leaves_own_body}
 use Rattle.snp_sync.proofs.Heard.{entries_keep_few, csnp_keeps_few}
+use Rattle.snp_sync.proofs.Octets.{entries_keep_octets, csnp_keeps_octets}
 use Rattle.snp_sync.proofs.Served.{entries_are_certified, csnp_is_certified}
 use Rattle.spb_content.proofs.Members.{Has}
 use Rattle.bridge_api.specs.declared.port.BridgePort.{BridgePort}
@@ -52,6 +55,7 @@ use Rattle.bridge_api.specs.Hearing.{with_csnp_due, left_up, all_srm_set_at, hea
 use Rattle.bridge_api.specs.Ticking.{later, leaves, leaving_from, flags_cleared_at_all, counts_lowered, expired, refreshed, after_sending_at, after_sending_from, after_sending}
 use Rattle.bridge_api.specs.Laws.{HasDatabase}
 use Rattle.bridge_api.proofs.OwnPorts.{HasText, dead_text, own_text, mapped_text, texts_of}
+use Rattle.bridge_api.proofs.Octets.{octets_behind}
 use Rattle.bridge_api.proofs.Places.{got_at}
 use Rattle.bridge_api.proofs.Present.{IsPresent, mapped_present, lsp_present, entries_present, csnp_present, settling_present}
 use Rattle.bridge_api.proofs.UpPorts.{up_ports_from}
@@ -64,6 +68,7 @@ use Rattle.bridge_api.proofs.Changes.{settling, found, one_port}
 pub record IsSoundData (up : PortSet) (system : SystemId) (db : Lsps) : Type 0 where
   pub sendable : AreSendable db
   pub sized : AreSized db
+  pub octets : HaveOctets db
   pub flags : HaveFlagsAt up db
   pub own : is_absent (version_at db (own_id system)) ≡ false
   pub present : (number : ℕ) → number < own_numbers → IsPresent (get db (own_number system number))
@@ -78,6 +83,7 @@ pub lsps_of : (v : BridgeView) → HasDatabase v → IsOwnLspCurrent v → Holds
 lsps_of v held own = record {
   sendable = held.sendable;
   sized = held.sized;
+  octets = held.octets;
   flags = held.flags;
   own = held.own;
   present = λ number below e is. held.present number e below is;
@@ -89,6 +95,7 @@ pub has_lsps : (v : BridgeView) → Holds v → HasDatabase v
 has_lsps v held = record {
   sendable = held.sendable;
   sized = held.sized;
+  octets = held.octets;
   flags = held.flags;
   own = held.own;
   present = λ number e below is. held.present number below e is;
@@ -116,9 +123,10 @@ few_of system h same few = subst (λ (s : SystemId). others s h.db ≤ most_othe
 
 -- ---- own LSPs
 
--- a bridge that can write what it says, whose id is six octets, and whose neighbours are at different ports
+-- a bridge that can write what it says, in octets, whose id is six octets, and whose neighbours are at different ports
 pub record CanOriginate (v : BridgeView) : Type 0 where
   pub body : HasBodies (own_of v)
+  pub octets : SaysOctets (own_of v)
   pub named : IsLspId (own_id v.id.system)
   pub text : (number : ℕ) (body : List ℕ) → body_at v number ≡ Some body → HasText number body
 
@@ -131,6 +139,7 @@ settling_keeps_data stands v can held =
     record {
       sendable = settling_keeps_sendable stands up h can.body held.sendable;
       sized = settling_keeps_sized stands up h can.named held.sized;
+      octets = settling_keeps_octets stands up h can.octets held.octets;
       flags = settling_keeps_flags stands up h held.flags;
       own = risen _ _ (steps.rises id) held.own;
       present = λ number below. settling_present stands up h (own_number v.id.system number) (held.present number below);
@@ -155,6 +164,7 @@ lsp_keeps l p v up whole id fields can held =
     record {
       sendable = lsp_keeps_sendable (up_ports v) p l h whole can.body held.sendable;
       sized = lsp_keeps_sized (up_ports v) p l h id fields held.sized;
+      octets = lsp_keeps_octets (up_ports v) p l h (octets_behind l.flags l.tlvs fields.4 fields.5) can.octets held.octets;
       flags = lsp_keeps_flags (up_ports v) p l h up held.flags;
       own = risen _ _ (steps.rises (own_id v.id.system)) held.own;
       present = λ number below. lsp_present (up_ports v) p l h (own_number v.id.system number) refl (held.present number below);
@@ -174,6 +184,7 @@ csnp_keeps c entries p v up listed can held =
     record {
       sendable = csnp_keeps_sendable (up_ports v) p c.start c.end (claims_in entries) h (all_numbered entries) can.body held.sendable;
       sized = csnp_keeps_sized (up_ports v) p c.start c.end entries h listed held.sized;
+      octets = csnp_keeps_octets (up_ports v) p c.start c.end (claims_in entries) h can.octets held.octets;
       flags = csnp_keeps_flags (up_ports v) p c.start c.end (claims_in entries) h up held.flags;
       own = risen _ _ (steps.rises (own_id v.id.system)) held.own;
       present = λ number below. csnp_present (up_ports v) p c.start c.end (claims_in entries) h (own_number v.id.system number) refl (held.present number below);
@@ -189,6 +200,7 @@ psnp_keeps entries p v up listed can held =
     record {
       sendable = entries_keep_sendable (up_ports v) p (claims_in entries) h (all_numbered entries) can.body held.sendable;
       sized = entries_keep_sized (up_ports v) p entries h listed held.sized;
+      octets = entries_keep_octets (up_ports v) p (claims_in entries) h can.octets held.octets;
       flags = entries_keep_flags (up_ports v) p (claims_in entries) h up held.flags;
       own = risen _ _ (steps.rises (own_id v.id.system)) held.own;
       present = λ number below. entries_present (up_ports v) p (claims_in entries) h (own_number v.id.system number) refl (held.present number below);
@@ -211,6 +223,7 @@ each_from P Q f db all keeps x n is = by_held (get db x) refl
 pub record KeepsEntry (up next : PortSet) (f : LspId → Entry → Entry) : Type 0 where
   pub sendable : (x : LspId) (e : Entry) → IsSendable x e → IsSendable x (f x e)
   pub sized : (x : LspId) (e : Entry) → IsSized x e → IsSized x (f x e)
+  pub octets : (x : LspId) (e : Entry) → IsBytes e.body → IsBytes (f x e).body
   pub flags : (x : LspId) (e : Entry) → HasFlagsAt up e → HasFlagsAt next (f x e)
   pub there : (x : LspId) (e : Entry) → is_absent e.version ≡ false → is_absent (f x e).version ≡ false
   pub text : (number : ℕ) (x : LspId) (e : Entry) → HasText number e.body → HasText number (f x e).body
@@ -223,6 +236,7 @@ pub each_keeps : (up next : PortSet) (system : SystemId) (f : LspId → Entry �
 each_keeps up next system f db keeps held = record {
   sendable = each_from IsSendable IsSendable f db held.sendable keeps.sendable;
   sized = each_from IsSized IsSized f db held.sized keeps.sized;
+  octets = each_from (λ id e. IsBytes e.body) (λ id e. IsBytes e.body) f db held.octets keeps.octets;
   flags = each_from (λ id e. HasFlagsAt up e) (λ id e. HasFlagsAt next e) f db held.flags keeps.flags;
   own =
       ap (λ o. is_absent (version_in o)) (get-each f db (own_id system))
@@ -246,7 +260,7 @@ wider : (up next : PortSet) (e : Entry) → StayUp up next → HasFlagsAt up e �
 wider up next e stay flags = record { srm = λ q on. stay q (flags.srm q on); ssn = λ q on. stay q (flags.ssn q on); absent = flags.absent }
 
 pub wider_keeps : (up next : PortSet) (system : SystemId) (db : Lsps) → StayUp up next → IsSoundData up system db → IsSoundData next system db
-wider_keeps up next system db stay held = record { sendable = held.sendable; sized = held.sized; flags = λ x e is. wider up next e stay (held.flags x e is); own = held.own; present = held.present; room = held.room; text = held.text }
+wider_keeps up next system db stay held = record { sendable = held.sendable; sized = held.sized; octets = held.octets; flags = λ x e is. wider up next e stay (held.flags x e is); own = held.own; present = held.present; room = held.room; text = held.text }
 
 module _ (up next : PortSet) (p : ℕ) (low : 1 ≤ p) (high : p ≤ 32) where
   module _ (stay : (q : ℕ) → q ≢ p → has up q ≡ true → has next q ≡ true) where
@@ -270,6 +284,7 @@ module _ (up next : PortSet) (p : ℕ) (low : 1 ≤ p) (high : p ≤ 32) where
     flags_cleared_keeps = record {
       sendable = λ x e s. flags_sendable (without_port e.srm p) (without_port e.ssn p) x e s;
       sized = λ x e s. flags_keep_sized (without_port e.srm p) (without_port e.ssn p) x e s;
+      octets = λ x e was. was;
       flags = λ x e flags. flags_cleared_flags e flags;
       there = λ x e there. there;
       text = λ number x e was. was;
@@ -298,17 +313,18 @@ module _ (up next : PortSet) (p : ℕ) (low : 1 ≤ p) (high : p ≤ 32) where
     srm_set_there e true there = there
     srm_set_there e false there = there
 
-    srm_set_text : (number : ℕ) (e : Entry) (b : Bool) → HasText number e.body → HasText number (if b then e else record e { srm = with_port e.srm p }).body
-    srm_set_text number e true was = was
-    srm_set_text number e false was = was
+    srm_set_body : (P : List ℕ → Type 0) (e : Entry) (b : Bool) → P e.body → P (if b then e else record e { srm = with_port e.srm p }).body
+    srm_set_body P e true was = was
+    srm_set_body P e false was = was
 
     srm_set_keeps : KeepsEntry up next (λ id e. srm_set_at p e)
     srm_set_keeps = record {
       sendable = λ x e s. srm_set_sendable x e (is_absent e.version) s;
       sized = λ x e s. srm_set_sized x e (is_absent e.version) s;
+      octets = λ x e was. srm_set_body IsBytes e (is_absent e.version) was;
       flags = λ x e flags. srm_set_flags e (is_absent e.version) refl flags;
       there = λ x e there. srm_set_there e (is_absent e.version) there;
-      text = λ number x e was. srm_set_text number e (is_absent e.version) was;
+      text = λ number x e was. srm_set_body (HasText number) e (is_absent e.version) was;
     }
 
 -- ---- the Up ports, where one port changes
@@ -406,6 +422,7 @@ expired_keeps v held =
     let keeps : KeepsEntry (up_ports v) (up_ports v) (λ id e. aged (up_ports v) e) = record {
       sendable = ageing_keeps_sendable (up_ports v);
       sized = ageing_keeps_sized (up_ports v);
+      octets = λ x e was. ageing_keeps_octets (up_ports v) e was;
       flags = λ x e flags. aged_flags (up_ports v) e e.version refl flags;
       there = λ x e there. aged_there (up_ports v) e e.version refl there;
       text = λ number x e was. aged_text number (up_ports v) e e.version was;
@@ -440,9 +457,9 @@ all_flags_cleared_there : (ps : List ℕ) (e : Entry) → is_absent e.version �
 all_flags_cleared_there [] e there = there
 all_flags_cleared_there (p ∷ ps) e there = all_flags_cleared_there ps (flags_cleared_at p e) there
 
-all_flags_cleared_text : (number : ℕ) (ps : List ℕ) (e : Entry) → HasText number e.body → HasText number (flags_cleared_at_all ps e).body
-all_flags_cleared_text number [] e was = was
-all_flags_cleared_text number (p ∷ ps) e was = all_flags_cleared_text number ps (flags_cleared_at p e) was
+all_flags_cleared_body : (P : List ℕ → Type 0) (ps : List ℕ) (e : Entry) → P e.body → P (flags_cleared_at_all ps e).body
+all_flags_cleared_body P [] e was = was
+all_flags_cleared_body P (p ∷ ps) e was = all_flags_cleared_body P ps (flags_cleared_at p e) was
 
 -- a port where the neighbour is lost is among those
 later_has : (b : Bool) (q p : ℕ) (ports : List BridgePort) → Has q (leaving_from (p + 1) ports) → Has q (if b then p ∷ leaving_from (p + 1) ports else leaving_from (p + 1) ports)
@@ -494,10 +511,11 @@ counts_lowered_keeps v few held =
     let keeps : KeepsEntry (up_ports v) (up_ports w) (λ id e. flags_cleared_at_all ps e) = record {
       sendable = all_flags_cleared_sendable ps;
       sized = all_flags_cleared_sized ps;
+      octets = λ x e was. all_flags_cleared_body IsBytes ps e was;
       flags = λ x e flags. all_flags_cleared_flags ps (up_ports v) (up_ports w) e (leaving_range 1 v.ports (omega arith) (omega (arith, few)))
           (λ q up. stay_or_leave v.ports q (port_in v.ports q) few refl (sym (up_at v.ports q few) ∙ up)) flags;
       there = λ x e there. all_flags_cleared_there ps e there;
-      text = λ number x e was. all_flags_cleared_text number ps e was;
+      text = λ number x e was. all_flags_cleared_body (HasText number) ps e was;
     } in
     each_keeps (up_ports v) (up_ports w) v.id.system (λ id e. flags_cleared_at_all ps e) v.database keeps held
 
@@ -528,18 +546,19 @@ ssn_there : (p : ℕ) (e : Entry) (b : Bool) → is_absent e.version ≡ false �
 ssn_there p e true there = there
 ssn_there p e false there = there
 
-ssn_text : (number p : ℕ) (e : Entry) (b : Bool) → HasText number e.body → HasText number (if b then record e { ssn = without_port e.ssn p } else e).body
-ssn_text number p e true was = was
-ssn_text number p e false was = was
+ssn_body : (P : List ℕ → Type 0) (p : ℕ) (e : Entry) (b : Bool) → P e.body → P (if b then record e { ssn = without_port e.ssn p } else e).body
+ssn_body P p e true was = was
+ssn_body P p e false was = was
 
 pub all_ssn_cleared_keeps : (up : PortSet) (system : SystemId) (p : ℕ) (db : Lsps) → IsSoundData up system db → IsSoundData up system (all_ssn_cleared p db)
 all_ssn_cleared_keeps up system p db held =
     let keeps : KeepsEntry up up (λ id e. ssn_cleared_entry p e) = record {
       sendable = λ x e s. ssn_sendable x p e (has_ssn_at p e) s;
       sized = λ x e s. ssn_sized x p e (has_ssn_at p e) s;
+      octets = λ x e was. ssn_body IsBytes p e (has_ssn_at p e) was;
       flags = λ x e flags. ssn_flags up p e (has_ssn_at p e) refl flags;
       there = λ x e there. ssn_there p e (has_ssn_at p e) there;
-      text = λ number x e was. ssn_text number p e (has_ssn_at p e) was;
+      text = λ number x e was. ssn_body (HasText number) p e (has_ssn_at p e) was;
     } in
     each_keeps up up system (λ id e. ssn_cleared_entry p e) db keeps held
 

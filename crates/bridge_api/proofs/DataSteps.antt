@@ -6,7 +6,6 @@ use Rattle.std.proofs.lemmas.List.{length-map, length-set}
 use Rattle.std.proofs.lemmas.Option.{slice_get_within}
 use Rattle.spb_types.specs.Ports.{has}
 use Rattle.isis_pdu.specs.Pdu.{HelloValue}
-use Rattle.isis_pdu.specs.Grammar.{IsId}
 use Rattle.spb_tlvs.specs.declared.three_way.ThreeWay.{ThreeWay}
 use Rattle.customer_learning.specs.Known.{Addresses}
 use Rattle.adjacency.specs.declared.state.AdjacencyChange.{AdjacencyChange}
@@ -30,8 +29,8 @@ use Rattle.bridge_api.proofs.Places.{got_at}
 use Rattle.bridge_api.proofs.Adjacent.{came_up, stayed_up, hello_sound, carrier_sound}
 use Rattle.bridge_api.proofs.Changes.{KeepsRest, found, LspStep, CsnpStep, PsnpStep, frame_step, idle, by_hello, by_lsp, by_csnp, by_psnp, carrier_step, metric_step, originated_if_changed_ports, tick_is, attached_to, with_attached_is}
 use Rattle.bridge_api.proofs.Attached.{config_after}
-use Rattle.bridge_api.proofs.SoundPorts.{AreSoundPorts, all_set, heard_six, carrier_six, with_metric_sound, sound_at, source_six, all_later, config_kept}
-use Rattle.bridge_api.proofs.Saying.{has_body, can_say}
+use Rattle.bridge_api.proofs.SoundPorts.{IsSix, six_of, AreSoundPorts, all_set, heard_six, carrier_six, with_metric_sound, sound_at, source_six, all_later, config_kept}
+use Rattle.bridge_api.proofs.Saying.{has_body, says_octets, can_say}
 use Rattle.bridge_api.proofs.OwnPorts.{bodies_text}
 use Rattle.bridge_api.proofs.Data.{Holds, lsps_of, CanOriginate, own_named, up_at, originated_if_changed_keeps, refreshed_keeps, lsp_keeps, csnp_keeps, psnp_keeps, moved_keeps, left_keeps, srm_set_at_keeps, counts_lowered_keeps, expired_keeps, after_sending_keeps}
 use Rattle.bridge_api.proofs.Reading.{lsp_heard_at, csnp_heard_at, psnp_heard_at}
@@ -40,6 +39,7 @@ use Rattle.bridge_api.proofs.Reading.{lsp_heard_at, csnp_heard_at, psnp_heard_at
 pub can_originate : (v : BridgeView) → HasConfig v → length v.ports ≤ 32 → AreSoundPorts v.ports → CanOriginate v
 can_originate v config few ports = record {
   body = has_body v config few ports;
+  octets = says_octets v config few ports;
   named = own_named v.id.system config.system;
   text = bodies_text v few (can_say v config few ports);
 }
@@ -62,14 +62,14 @@ module _ (v : BridgeView) (was : IsSoundView v) where
     can_set w to rest is sound =
         can_after w rest (subst (λ (ports : List BridgePort). length ports ≤ 32) (sym is) (few_set to)) (subst AreSoundPorts (sym is) (all_set v.ports (p - 1) to was.ports sound))
 
-    module _ (a : Adjacency) (sound : IsSound a) (six : IsId a.neighbour) where
+    module _ (a : Adjacency) (sound : IsSound a) (six : IsSix a.neighbour) where
       kept_sound : change_of old.adjacency a ≡ Kept → IsSoundPort (with_adjacency a old)
       kept_sound e =
           let before : IsSoundPort old = sound_at v p old was.ports there in
-          record { adjacency = sound; neighbour = six; csnp_due = λ due. stayed_up old.adjacency a e (before.csnp_due due); metric = before.metric }
+          record { adjacency = sound; neighbour = six.0; octets = six.1; csnp_due = λ due. stayed_up old.adjacency a e (before.csnp_due due); metric = before.metric }
 
       left_sound : IsSoundPort (with_csnp_due false (with_adjacency a old))
-      left_sound = let before : IsSoundPort old = sound_at v p old was.ports there in record { adjacency = sound; neighbour = six; csnp_due = λ e. absurd cc; metric = before.metric }
+      left_sound = let before : IsSoundPort old = sound_at v p old was.ports there in record { adjacency = sound; neighbour = six.0; octets = six.1; csnp_due = λ e. absurd cc; metric = before.metric }
 
       left_holds : Holds (originated_if_changed (left_up p (with_adjacency a old) v))
       left_holds =
@@ -96,14 +96,14 @@ module _ (v : BridgeView) (was : IsSoundView v) where
       changed_holds CameUp e = came_holds (came_up old.adjacency a e)
 
     -- a hello
-    hello_holds : (discarded : Bool) (h : HelloValue) (way : ThreeWay) → IsId h.source → IsSound (if discarded then old.adjacency else after_hello_heard h way old.adjacency)
+    hello_holds : (discarded : Bool) (h : HelloValue) (way : ThreeWay) → IsSix h.source → IsSound (if discarded then old.adjacency else after_hello_heard h way old.adjacency)
         → Holds (changed_at (if discarded then Discarded else change_of old.adjacency (after_hello_heard h way old.adjacency)) p (with_adjacency (if discarded then old.adjacency else after_hello_heard h way old.adjacency) old) v)
     hello_holds true h way six sound = before_holds
     hello_holds false h way six sound =
         let a : Adjacency = after_hello_heard h way old.adjacency in
         changed_holds a sound (heard_six (h.holding == 0) (next_state (state_towards (sender h way) old.adjacency) (state_numbered way.state)) h way six) (change_of old.adjacency a) refl
 
-    heard_hello_holds : (h : HelloValue) (way : ThreeWay) → IsId h.source → Holds (heard_hello h way p old v)
+    heard_hello_holds : (h : HelloValue) (way : ThreeWay) → IsSix h.source → Holds (heard_hello h way p old v)
     heard_hello_holds h way six =
         let before : IsSoundPort old = sound_at v p old was.ports there in
         hello_holds (is_discarded v.id.system p h way) h way six (hello_sound v.id.system p h way old.adjacency before.adjacency)
@@ -112,7 +112,7 @@ module _ (v : BridgeView) (was : IsSoundView v) where
     with_carrier_holds on =
         let before : IsSoundPort old = sound_at v p old was.ports there in
         let a : Adjacency = after_carrier on old.adjacency in
-        changed_holds a (carrier_sound on old.adjacency before.adjacency) (carrier_six on old.adjacency before.neighbour) (change_of old.adjacency a) refl
+        changed_holds a (carrier_sound on old.adjacency before.adjacency) (carrier_six on old.adjacency (six_of old before)) (change_of old.adjacency a) refl
 
     with_metric_holds : (m : ℕ) → IsMetric m → Holds (originated_if_changed (with_port_at p (with_port_metric m old) v))
     with_metric_holds m is =

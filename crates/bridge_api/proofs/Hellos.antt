@@ -1,6 +1,6 @@
 -- The hellos that are sent are heard as such.
 use Rattle.std.proofs.Common.{◌≡◌, ◌⊎◌, inl, inr, ◌≤◌, ◌<◌, ◌+◌, ◌-◌, ℕ, zero, suc, Bool, true, false, List, [], ◌∷◌, ◌++◌, length, map, refl, sym, ap, ◌∙◌, subst, Option, Some, None, Ok, arith, length-append}
-use Rattle.std.specs.Prelude.{slice_get, nat_le, IsTrue, if◌then◌else◌}
+use Rattle.std.specs.Prelude.{⊤, slice_get, nat_le, IsTrue, if◌then◌else◌}
 use Rattle.std.specs.Int.{w16, to_be_bytes}
 use Rattle.std.specs.Option.{option_map, option_and_then}
 use Rattle.std.proofs.lemmas.List.{append-nil, append_assoc}
@@ -34,18 +34,19 @@ use Rattle.adjacency.specs.declared.state.AdjState.TheVariants.{Down, Initializi
 use Rattle.adjacency.specs.States.{state_number}
 use Rattle.adjacency.specs.Hearing.{End}
 use Rattle.adjacency.specs.declared.port.Adjacency.{Adjacency}
-use Rattle.adjacency.specs.Adjacency.{SoundIn, is_up, neighbour_of, said}
+use Rattle.adjacency.specs.Adjacency.{SoundIn, is_up, kept_in, neighbour_of, said}
 use Rattle.bridge_api.specs.declared.port.BridgePort.{BridgePort}
 use Rattle.bridge_api.specs.View.{BridgeView, port_at, neighbour_at, is_port_up, has_carrier_in, has_carrier_at}
 use Rattle.bridge_api.specs.Parsing.{parsed, is_octets, by_content, by_pdu, by_three_way, by_reading}
 use Rattle.bridge_api.specs.Parsing as parsing
 use Rattle.spb_types.specs.declared.drop_reason.DropReason.TheVariants as drop
 use Rattle.bridge_api.specs.Ticking.{later, readied, hello_tlvs, hello_at, hello_frame, lsp_frame, csnp_frame, psnp_frame, hellos_at, summaries_at, lsps_at, requests_at, synced_at, sent_at, after_sending_at, sent_from, sent_in_tick, after_tick}
-use Rattle.bridge_api.specs.Laws.{IsSoundPort, IsSent, IsHelloOf, AreOctets, HellosAreHeard, SentWithCarrier}
+use Rattle.bridge_api.specs.Laws.{IsSoundPort, IsSent, IsHelloOf, HellosAreHeard, SentWithCarrier}
 use Rattle.bridge_api.proofs.Changes.{found, readied_ports, readied_rest, ticked, tick_port, when_true}
 use Rattle.bridge_api.proofs.Carriers.{later_carrier}
+use Rattle.spb_content.proofs.Octets.{four_small}
 use Rattle.bridge_api.proofs.Octets.{AreSmall, octets_small, bytes_small, small_both}
-use Rattle.bridge_api.proofs.SoundPorts.{all_later, all_at}
+use Rattle.bridge_api.proofs.SoundPorts.{later_sound, all_later, all_at, sound_at}
 
 -- ---- the TLVs of a hello
 
@@ -118,8 +119,18 @@ hello_of w p port there at same = record {
 
 -- ---- its octets
 
-four_small : (n : ℕ) → AreSmall (four n)
-four_small n = (omega arith, (omega arith, (omega arith, (omega arith, tt))))
+-- the neighbour that is kept, if one is, is octets
+abbrev pub AreOctets : Option End → Type 0
+AreOctets None = ⊤
+AreOctets (Some n) = IsBytes n.0.mac.bytes
+
+kept_octets : (s : AdjState) (end : End) → IsBytes end.0.mac.bytes → AreOctets (kept_in s end)
+kept_octets Down end octets = tt
+kept_octets Initializing end octets = octets
+kept_octets Up end octets = octets
+
+pub port_octets : (port : BridgePort) → IsSoundPort port → AreOctets (neighbour_of port.adjacency)
+port_octets port sound = kept_octets port.adjacency.state (port.adjacency.neighbour, port.adjacency.circuit) sound.octets
 
 neighbour_small : (n : Option End) → AreOctets n → AreSmall (neighbour_bytes n)
 neighbour_small None octets = tt
@@ -302,7 +313,7 @@ carrier_port_at (Some port) v p there has_carrier = record { port = port; there 
 
 pub hellos_are_heard : ControlAgain → HellosAreHeard
 unfolding sent_in_tick after_tick has_carrier_at
-hellos_are_heard control_again v p was carrier named octets =
+hellos_are_heard control_again v p was carrier named =
     let w : BridgeView = readied v in
     let g = carrier_port_at (port_at v p) v p refl carrier in
     let at = found v.ports p g.port g.there in
@@ -320,6 +331,6 @@ hellos_are_heard control_again v p was carrier named octets =
       sent = hello_sent w.id.system 1 w.ports w.database (p - 1) p port (omega (arith, at.0)) there (later_carrier g.port ∙ g.has_carrier);
       hello = hello_at w.id.system p port;
       way = said p port.adjacency;
-      heard = hello_heard control_again w.id.system p port six from (omega (arith, at.0, within, was.few)) (subst IsNamed kept named) (subst AreOctets kept octets);
+      heard = hello_heard control_again w.id.system p port six from (omega (arith, at.0, within, was.few)) (subst IsNamed kept named) (port_octets port (later_sound g.port (sound_at v p g.port was.ports g.there)));
       own = hello_of (after_tick v) p port (ticked g.port) afterwards refl;
     }

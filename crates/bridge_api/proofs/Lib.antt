@@ -32,3 +32,4 @@ pub mod Attached
 pub mod Bodies
 pub mod Present
 pub mod Configured
+pub mod SentHeard

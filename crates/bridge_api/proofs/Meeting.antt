@@ -25,11 +25,11 @@ use Rattle.bridge_api.specs.Hearing.{with_adjacency, heard_as, heard_hello, with
 use Rattle.bridge_api.specs.Ports.{heard_hello_port, with_carrier_port}
 use Rattle.bridge_api.specs.Ticking.{later, readied, hello_tlvs, hello_at, hello_frame, synced_at, sent_from, after_sending_at, sent_in_tick}
 use Rattle.bridge_api.specs.Step.{second, frame, carrier, sent, step}
-use Rattle.bridge_api.specs.Laws.{IsSoundView, AreOctets, with_first_carrier, first_of, hearing_from, NeighboursComeUp, SomeBridge}
+use Rattle.bridge_api.specs.Laws.{IsSoundView, with_first_carrier, first_of, hearing_from, NeighboursComeUp, SomeBridge}
 use Rattle.bridge_api.proofs.Octets.{small_bytes}
 use Rattle.bridge_api.proofs.Changes.{when_false, heard_is, with_carrier_is, with_carrier_ports, with_carrier_rest, heard_hello_ports, heard_hello_rest, readied_ports, readied_rest, configured_is, configured_ports}
 use Rattle.bridge_api.proofs.Certified.{noted_keeps}
-use Rattle.bridge_api.proofs.Hellos.{hello_heard}
+use Rattle.bridge_api.proofs.Hellos.{AreOctets, hello_heard}
 use Rattle.bridge_api.proofs.Configured.{first_life_long, first_life_low}
 use Rattle.bridge_api.proofs.Sound.{configured_is_sound, steps_stay_sound}
 

@@ -13,21 +13,25 @@ use Rattle.spb_tlvs.specs.Capability.{IsTree}
 use Rattle.spb_tlvs.specs.RoundTrip.{IsNeighbour}
 use Rattle.isis_pdu.specs.declared.kind.Kind.TheVariants as kinds
 use Rattle.isis_pdu.specs.Spelling.{CanWrite}
+use Rattle.isis_pdu.specs.Grammar.{IsBytes}
 use Rattle.flooding.specs.Own.{tlvs_of_body}
 use Rattle.flooding.specs.Laws.{HasBodies}
+use Rattle.flooding.specs.OctetLaws.{SaysOctets}
 use Rattle.spb_content.specs.Local.{IsLocal, IsAttached, AreInOneVid, isid_number, isids_in}
-use Rattle.spb_content.specs.Laws.{HasFields, AreConfigured, Fits}
+use Rattle.spb_content.specs.Laws.{HasFields, HasOctets, AreConfigured, Fits}
 use Rattle.spb_content.proofs.Members.{Has, all_has, weaker, has_map, map_has, contains_from_has}
 use Rattle.spb_content.proofs.Ascended.{ascending_ascends, Numbered}
 use Rattle.spb_content.proofs.Kept.{apart_ascends, length-within}
 use Rattle.spb_content.proofs.Written.{isid_attached}
 use Rattle.spb_content.proofs.Fitting.{fragments_fit}
+use Rattle.spb_content.proofs.Octets.{fragments_are_octets}
 use Rattle.bridge_api.specs.declared.port.BridgePort.{BridgePort}
 use Rattle.bridge_api.specs.View.{BridgeView, is_port_up}
 use Rattle.bridge_api.specs.Own.{neighbour_in, neighbours_from, member_of, local_of, own_of}
 use Rattle.bridge_api.specs.Config.{ArePairwise, different, IsAttachment, AgreesWith, vids_of}
 use Rattle.bridge_api.specs.Laws.{IsSoundPort, HasConfig, CanSay, SoundCanSay}
 use Rattle.bridge_api.proofs.Bodies.{IsFragment, is_fragment}
+use Rattle.bridge_api.proofs.Octets.{octets_behind}
 
 -- ---- lists
 
@@ -117,6 +121,15 @@ are_neighbours : (p : ℕ) (ports : List BridgePort) → p + length ports ≤ 33
 are_neighbours p [] few sound = tt
 are_neighbours p (port ∷ ports) few sound = named_at (is_port_up port) p port ports (omega (arith, few)) sound.0 (are_neighbours (p + 1) ports (omega (arith, few)) sound.1)
 
+octets_at : (up : Bool) (p : ℕ) (port : BridgePort) (ports : List BridgePort) → IsSoundPort port → AllByRecursion (λ n. IsBytes n.system.mac.bytes) (neighbours_from (p + 1) ports)
+    → AllByRecursion (λ n. IsBytes n.system.mac.bytes) (if up then neighbour_in p port ∷ neighbours_from (p + 1) ports else neighbours_from (p + 1) ports)
+octets_at true p port ports sound rest = (sound.octets, rest)
+octets_at false p port ports sound rest = rest
+
+neighbours_octets : (p : ℕ) (ports : List BridgePort) → AllByRecursion IsSoundPort ports → AllByRecursion (λ n. IsBytes n.system.mac.bytes) (neighbours_from p ports)
+neighbours_octets p [] sound = tt
+neighbours_octets p (port ∷ ports) sound = octets_at (is_port_up port) p port ports sound.0 (neighbours_octets (p + 1) ports sound.1)
+
 fewer_at : (up : Bool) (p : ℕ) (port : BridgePort) (ports : List BridgePort) → length (neighbours_from (p + 1) ports) ≤ length ports
     → length (if up then neighbour_in p port ∷ neighbours_from (p + 1) ports else neighbours_from (p + 1) ports) ≤ length (port ∷ ports)
 fewer_at true p port ports rest = omega (arith, rest)
@@ -158,8 +171,17 @@ module _ (v : BridgeView) (config : HasConfig v) (few : length v.ports ≤ 32) (
       subst (λ (b : List ℕ). (1 ≤ length b) × CanWrite kinds.Lsp (tlvs_of_body b)) (sym f.is)
       (omega arith, record { whole = fits.whole; short = omega (arith, fits.short) })
 
+  has_octets : HasOctets (local_of v)
+  has_octets = record { mac = config.system.octets; neighbours = neighbours_octets 1 v.ports ports }
+
+  pub says_octets : SaysOctets (own_of v)
+  says_octets number body is =
+      let f : IsFragment v number body = is_fragment v number body is in
+      let octets : IsBytes f.tlvs = fragments_are_octets (local_of v) number f.tlvs is_local has_fields has_octets f.exists in
+      subst IsBytes (sym f.is) (octets_behind 1 f.tlvs (omega arith) octets)
+
   pub can_say : CanSay v
-  can_say = record { local = is_local; fields = has_fields; body = has_body }
+  can_say = record { local = is_local; fields = has_fields; body = has_body; octets = says_octets }
 
 pub sound_can_say : SoundCanSay
 sound_can_say v sound = can_say v sound.config sound.few sound.ports

@@ -1,11 +1,12 @@
 -- The ports of a bridge and its configuration stay sound.
-use Rattle.std.proofs.Common.{◌≡◌, inl, inr, ◌-◌, ℕ, zero, suc, Bool, true, false, List, [], ◌∷◌, map, refl, sym, ap, ◌∙◌, subst, Option, Some, None}
+use Rattle.std.proofs.Common.{◌≡◌, inl, inr, ◌-◌, ℕ, zero, suc, Bool, true, false, List, [], ◌∷◌, map, replicate, refl, sym, ap, ◌∙◌, subst, Option, Some, None, arith}
 use Rattle.std.specs.Prelude.{slice_get, slice_set, nat_le, ◌==◌, if◌then◌else◌, ◌++◌}
 use Rattle.std.specs.List.{AllByRecursion}
 use Rattle.std.proofs.lemmas.List.{length-map}
 use Rattle.std.proofs.lemmas.Bool.{and_parts}
 use Rattle.isis_pdu.specs.Pdu.{HelloValue, hello}
-use Rattle.isis_pdu.specs.Grammar.{IsId}
+use Rattle.isis_pdu.specs.Grammar.{IsId, IsBytes}
+use Rattle.spb_types.specs.declared.address.SystemId.{SystemId}
 use Rattle.spb_tlvs.specs.declared.three_way.ThreeWay.{ThreeWay}
 use Rattle.adjacency.specs.declared.state.AdjState.{AdjState}
 use Rattle.adjacency.specs.declared.state.AdjState.TheVariants.{Down, Initializing, Up}
@@ -14,7 +15,7 @@ use Rattle.adjacency.specs.declared.state.AdjacencyChange.TheVariants as did
 use Rattle.adjacency.specs.declared.port.Adjacency.{Adjacency}
 use Rattle.adjacency.specs.States.{next_state, state_numbered}
 use Rattle.adjacency.specs.Hearing.{is_discarded, sender}
-use Rattle.adjacency.specs.Adjacency.{IsSound, down, led_to, state_towards, is_down, after_hello_heard, after_second, after_carrier, change_of}
+use Rattle.adjacency.specs.Adjacency.{IsSound, no_system, down, led_to, state_towards, is_down, after_hello_heard, after_second, after_carrier, change_of}
 use Rattle.bridge_api.specs.declared.port.BridgePort.{BridgePort}
 use Rattle.bridge_api.specs.declared.config.BridgeConfig.{BridgeConfig}
 use Rattle.bridge_api.specs.View.{BridgeView, port_at, neighbour_at, is_port_up, has_carrier_in, has_carrier_at, metrics_of}
@@ -31,65 +32,79 @@ use Rattle.bridge_api.specs.Laws.{IsSoundPort, HasConfig, IsInput, ConfiguredHas
 use Rattle.bridge_api.proofs.Adjacent.{came_up, stayed_up, hello_sound, second_sound, carrier_sound, not_discarded}
 use Rattle.bridge_api.proofs.Changes.{KeepsRest, found, frame_ports, heard_hello_ports, carrier_step, with_carrier_ports, metric_step, with_metric_ports, with_attached_ports, tick_ports, configured_ports}
 use Rattle.bridge_api.proofs.Certified.{end_in}
-use Rattle.bridge_api.proofs.Heard.{pdu_in, heard_pdu}
+use Rattle.bridge_api.proofs.Heard.{pdu_in, IsHeardPdu, heard_pdu}
+use Rattle.bridge_api.proofs.Octets.{small_bytes}
 
--- ---- the neighbour has six bytes
+-- ---- the neighbour has six octets
 
-led_six : (s : AdjState) (h : HelloValue) (way : ThreeWay) → IsId h.source → IsId (led_to s h way).neighbour
-led_six Down h way six = refl
+abbrev pub IsSix : SystemId → Type 0
+IsSix system = IsId system × IsBytes system.mac.bytes
+
+no_system_six : IsSix no_system
+no_system_six = (refl, small_bytes (replicate 6 0) (omega arith, (omega arith, (omega arith, (omega arith, (omega arith, (omega arith, tt)))))))
+
+-- that of a sound port
+pub six_of : (port : BridgePort) → IsSoundPort port → IsSix port.adjacency.neighbour
+six_of port was = (was.neighbour, was.octets)
+
+led_six : (s : AdjState) (h : HelloValue) (way : ThreeWay) → IsSix h.source → IsSix (led_to s h way).neighbour
+led_six Down h way six = no_system_six
 led_six Initializing h way six = six
 led_six Up h way six = six
 
-pub heard_six : (ended : Bool) (s : AdjState) (h : HelloValue) (way : ThreeWay) → IsId h.source → IsId (if ended then down true else led_to s h way).neighbour
-heard_six true s h way six = refl
+pub heard_six : (ended : Bool) (s : AdjState) (h : HelloValue) (way : ThreeWay) → IsSix h.source → IsSix (if ended then down true else led_to s h way).neighbour
+heard_six true s h way six = no_system_six
 heard_six false s h way six = led_six s h way six
 
-second_six : (idle ended : Bool) (a : Adjacency) → IsId a.neighbour → IsId (if idle then a else (if ended then down a.carrier else record a { hold = a.hold - 1 })).neighbour
+second_six : (idle ended : Bool) (a : Adjacency) → IsSix a.neighbour → IsSix (if idle then a else (if ended then down a.carrier else record a { hold = a.hold - 1 })).neighbour
 second_six true ended a six = six
-second_six false true a six = refl
+second_six false true a six = no_system_six
 second_six false false a six = six
 
-pub carrier_six : (on : Bool) (a : Adjacency) → IsId a.neighbour → IsId (after_carrier on a).neighbour
+pub carrier_six : (on : Bool) (a : Adjacency) → IsSix a.neighbour → IsSix (after_carrier on a).neighbour
 carrier_six true a six = six
-carrier_six false a six = refl
+carrier_six false a six = no_system_six
 
 -- ---- one port
 
-noted_sound : (heard : AdjacencyChange) (port : BridgePort) → IsSound port.adjacency → IsId port.adjacency.neighbour → IsMetric port.metric → (heard ≡ did.CameUp → is_port_up port ≡ true) → (heard ≡ did.Kept → port.csnp_due ≡ true → is_port_up port ≡ true) → (heard ≡ did.Discarded → port.csnp_due ≡ true → is_port_up port ≡ true) → IsSoundPort (noted heard port)
-noted_sound did.Kept port sound six link came kept whole = record { adjacency = sound; neighbour = six; csnp_due = kept refl; metric = link }
-noted_sound did.CameUp port sound six link came kept whole = record { adjacency = sound; neighbour = six; csnp_due = λ e. came refl; metric = link }
-noted_sound did.LeftUp port sound six link came kept whole = record { adjacency = sound; neighbour = six; csnp_due = λ e. absurd cc; metric = link }
-noted_sound did.Discarded port sound six link came kept whole = record { adjacency = sound; neighbour = six; csnp_due = whole refl; metric = link }
+noted_sound : (heard : AdjacencyChange) (port : BridgePort) → IsSound port.adjacency → IsSix port.adjacency.neighbour → IsMetric port.metric → (heard ≡ did.CameUp → is_port_up port ≡ true) → (heard ≡ did.Kept → port.csnp_due ≡ true → is_port_up port ≡ true) → (heard ≡ did.Discarded → port.csnp_due ≡ true → is_port_up port ≡ true) → IsSoundPort (noted heard port)
+noted_sound did.Kept port sound six link came kept whole = record { adjacency = sound; neighbour = six.0; octets = six.1; csnp_due = kept refl; metric = link }
+noted_sound did.CameUp port sound six link came kept whole = record { adjacency = sound; neighbour = six.0; octets = six.1; csnp_due = λ e. came refl; metric = link }
+noted_sound did.LeftUp port sound six link came kept whole = record { adjacency = sound; neighbour = six.0; octets = six.1; csnp_due = λ e. absurd cc; metric = link }
+noted_sound did.Discarded port sound six link came kept whole = record { adjacency = sound; neighbour = six.0; octets = six.1; csnp_due = whole refl; metric = link }
 
 -- a port that another adjacency is noted at, by what the change from the old one was
-change_sound : (port : BridgePort) (new : Adjacency) → IsSoundPort port → IsSound new → IsId new.neighbour → IsSoundPort (noted (change_of port.adjacency new) (with_adjacency new port))
+change_sound : (port : BridgePort) (new : Adjacency) → IsSoundPort port → IsSound new → IsSix new.neighbour → IsSoundPort (noted (change_of port.adjacency new) (with_adjacency new port))
 change_sound port new was sound six =
     noted_sound (change_of port.adjacency new) (with_adjacency new port) sound six was.metric (came_up port.adjacency new) (λ e due. stayed_up port.adjacency new e (was.csnp_due due)) (λ e. absurd (not_discarded port.adjacency new e))
 
-hello_port_at : (discarded : Bool) (h : HelloValue) (way : ThreeWay) (port : BridgePort) → IsSoundPort port → IsId h.source → IsSound (if discarded then port.adjacency else after_hello_heard h way port.adjacency) → IsSoundPort (noted (if discarded then did.Discarded else change_of port.adjacency (after_hello_heard h way port.adjacency)) (with_adjacency (if discarded then port.adjacency else after_hello_heard h way port.adjacency) port))
+hello_port_at : (discarded : Bool) (h : HelloValue) (way : ThreeWay) (port : BridgePort) → IsSoundPort port → IsSix h.source → IsSound (if discarded then port.adjacency else after_hello_heard h way port.adjacency) → IsSoundPort (noted (if discarded then did.Discarded else change_of port.adjacency (after_hello_heard h way port.adjacency)) (with_adjacency (if discarded then port.adjacency else after_hello_heard h way port.adjacency) port))
 hello_port_at true h way port was six sound = was
 hello_port_at false h way port was six sound =
     change_sound port (after_hello_heard h way port.adjacency) was sound (heard_six (h.holding == 0) (next_state (state_towards (sender h way) port.adjacency) (state_numbered way.state)) h way six)
 
-pub heard_hello_sound : (v : BridgeView) (q : ℕ) (h : HelloValue) (way : ThreeWay) (port : BridgePort) → IsSoundPort port → IsId h.source → IsSoundPort (heard_hello_port v.id.system q h way port)
+pub heard_hello_sound : (v : BridgeView) (q : ℕ) (h : HelloValue) (way : ThreeWay) (port : BridgePort) → IsSoundPort port → IsSix h.source → IsSoundPort (heard_hello_port v.id.system q h way port)
 heard_hello_sound v q h way port was six = hello_port_at (is_discarded v.id.system q h way) h way port was six (hello_sound v.id.system q h way port.adjacency was.adjacency)
 
 pub with_carrier_sound : (on : Bool) (port : BridgePort) → IsSoundPort port → IsSoundPort (with_carrier_port on port)
-with_carrier_sound on port was = change_sound port (after_carrier on port.adjacency) was (carrier_sound on port.adjacency was.adjacency) (carrier_six on port.adjacency was.neighbour)
+with_carrier_sound on port was = change_sound port (after_carrier on port.adjacency) was (carrier_sound on port.adjacency was.adjacency) (carrier_six on port.adjacency (six_of port was))
 
 pub with_metric_sound : (m : ℕ) (port : BridgePort) → IsMetric m → IsSoundPort port → IsSoundPort (with_port_metric m port)
-with_metric_sound m port is was = record { adjacency = was.adjacency; neighbour = was.neighbour; csnp_due = was.csnp_due; metric = is }
+with_metric_sound m port is was = record { adjacency = was.adjacency; neighbour = was.neighbour; octets = was.octets; csnp_due = was.csnp_due; metric = is }
 
 pub later_sound : (port : BridgePort) → IsSoundPort port → IsSoundPort (later port)
-later_sound port was = record {
-  adjacency = second_sound port.adjacency was.adjacency;
-  neighbour = second_six (is_down port.adjacency.state) (port.adjacency.hold == 1) port.adjacency was.neighbour;
-  csnp_due = λ e. (and_parts port.csnp_due (is_port_up (with_adjacency (after_second port.adjacency) port)) e).1;
-  metric = was.metric;
-}
+later_sound port was =
+    let six : IsSix (after_second port.adjacency).neighbour = second_six (is_down port.adjacency.state) (port.adjacency.hold == 1) port.adjacency (six_of port was) in
+    record {
+      adjacency = second_sound port.adjacency was.adjacency;
+      neighbour = six.0;
+      octets = six.1;
+      csnp_due = λ e. (and_parts port.csnp_due (is_port_up (with_adjacency (after_second port.adjacency) port)) e).1;
+      metric = was.metric;
+    }
 
 pub undue_sound : (port : BridgePort) → IsSoundPort port → IsSoundPort (with_csnp_due false port)
-undue_sound port was = record { adjacency = was.adjacency; neighbour = was.neighbour; csnp_due = λ e. absurd cc; metric = was.metric }
+undue_sound port was = record { adjacency = was.adjacency; neighbour = was.neighbour; octets = was.octets; csnp_due = λ e. absurd cc; metric = was.metric }
 
 -- ---- all ports
 
@@ -118,8 +133,10 @@ pub sound_at : (v : BridgeView) (q : ℕ) (port : BridgePort) → AreSoundPorts 
 sound_at v q port all there = all_at v.ports (q - 1) port all (found v.ports q port there).1
 
 -- the source of a hello that was heard
-pub source_six : (bytes : List ℕ) (h : HelloValue) (way : ThreeWay) → parsed bytes ≡ parsing.hello h way → IsId h.source
-source_six bytes h way is = (heard_pdu bytes (hello h) (ap pdu_in is)).from.pdu.ids
+pub source_six : (bytes : List ℕ) (h : HelloValue) (way : ThreeWay) → parsed bytes ≡ parsing.hello h way → IsSix h.source
+source_six bytes h way is =
+    let heard : IsHeardPdu bytes (hello h) = heard_pdu bytes (hello h) (ap pdu_in is) in
+    (heard.from.pdu.ids, heard.from.fields.1)
 
 -- one port is sound afterwards, and no other changed
 one_sound : (v w : BridgeView) (q : ℕ) (to : BridgePort) → AreSoundPorts v.ports → IsSoundPort to → w.ports ≡ slice_set v.ports (q - 1) to → AreSoundPorts w.ports
@@ -185,7 +202,7 @@ configured_config c whole = config_kept (bare c) (configured c) refl (bare_confi
 
 pub all_without_carrier : (metrics : List ℕ) → AllByRecursion IsMetric metrics → AreSoundPorts (map port_without_carrier metrics)
 all_without_carrier [] each = tt
-all_without_carrier (m ∷ ms) each = (record { adjacency = refl; neighbour = refl; csnp_due = λ e. absurd cc; metric = each.0 }, all_without_carrier ms each.1)
+all_without_carrier (m ∷ ms) each = (record { adjacency = refl; neighbour = no_system_six.0; octets = no_system_six.1; csnp_due = λ e. absurd cc; metric = each.0 }, all_without_carrier ms each.1)
 
 pub configured_sound : (c : BridgeConfig) → IsWhole c → AreSoundPorts (configured c).ports
 configured_sound c whole = subst AreSoundPorts (sym (configured_ports c)) (all_without_carrier c.metrics whole.each_metric)

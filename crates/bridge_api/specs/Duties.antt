@@ -1,5 +1,5 @@
--- What a bridge does for its neighbours in a second: all is sent that is to be sent, and afterwards nothing is due or
--- has SSN.
+-- What a bridge does for its neighbours in a second: all is sent that is to be sent, and is heard as it is meant; and
+-- afterwards nothing is due or has SSN.
 use Rattle.std.specs.Prelude.{◌≡◌, ℕ, List, true, false, Option, Some, None}
 use Rattle.std.specs.List.{AllByRecursion}
 use Rattle.std.specs.FinMap.{get}
@@ -10,6 +10,8 @@ use Rattle.lsdb.specs.Database.{ssn_in}
 use Rattle.flooding.specs.Sending.{lsp_in}
 use Rattle.snp_sync.specs.Sending.{csnps_of, psnps_of}
 use Rattle.bridge_api.specs.View.{BridgeView, is_up_at, is_csnp_due_at}
+use Rattle.bridge_api.specs.Parsing.{parsed}
+use Rattle.bridge_api.specs.Parsing as parsing
 use Rattle.bridge_api.specs.Ticking.{readied, lsp_frame, csnp_frame, psnp_frame}
 use Rattle.bridge_api.specs.Step.{second, step, sent}
 use Rattle.bridge_api.specs.Laws.{IsSoundView, IsSent}
@@ -27,6 +29,17 @@ pub record IsServedAt (v : BridgeView) (p : ℕ) (frames : List (ℕ × List ℕ
 abbrev pub SecondsServe : Type 0
 SecondsServe = (v : BridgeView) (p : ℕ) → IsSoundView v → is_up_at (readied v) p ≡ true
     → IsServedAt (readied v) p (sent second v)
+
+-- each LSP that the bridge holds which sends is heard as itself
+abbrev pub LspsAreHeard : Type 0
+LspsAreHeard = (v : BridgeView) (id : LspId) (e : Entry) → IsSoundView v → get (readied v).database id ≡ Some e
+    → parsed (lsp_frame (readied v).id.system (lsp_in id e)) ≡ parsing.lsp (lsp_in id e)
+
+-- and so is each of its PSNPs at a port
+abbrev pub RequestsAreHeard : Type 0
+RequestsAreHeard = (v : BridgeView) (p : ℕ) → IsSoundView v
+    → AllByRecursion (λ s. parsed (psnp_frame (readied v).id.system s) ≡ parsing.psnp s)
+    (psnps_of (readied v).id.system p (readied v).database)
 
 -- what is held under an id, but for its SSN flags
 abbrev pub but_for_ssn : Option Entry → Option Entry

@@ -27,8 +27,9 @@ use Rattle.flooding.specs.Own.{own_id, own_numbers}
 use Rattle.flooding.specs.Room.{most_others, others}
 use Rattle.flooding.specs.Hearing.{claim_of}
 use Rattle.flooding.specs.Sending.{lsp_in}
-use Rattle.flooding.specs.Entries.{AreSendable, HaveFlagsAt}
+use Rattle.flooding.specs.Entries.{AreSendable, HaveFlagsAt, HaveOctets}
 use Rattle.flooding.specs.Laws.{HasBodies}
+use Rattle.flooding.specs.OctetLaws.{SaysOctets}
 use Rattle.flooding.specs.Starting.{StartsAlone}
 use Rattle.snp_sync.specs.Sized.{AreSized}
 use Rattle.snp_sync.specs.Reading.{entries_in}
@@ -52,11 +53,12 @@ use Rattle.bridge_api.specs.Services.{IsAttachedPort, CanAttach, without_custome
 use Rattle.bridge_api.specs.Customers.{IsCustomerFrame, AreLearned}
 use Rattle.bridge_api.specs.Step.{Input, second, frame, carrier, metric, attach, detach, customer, step, sent}
 
--- a port whose adjacency is sound, with a neighbour of six bytes if it keeps one, where CSNPs are due only if it is Up,
--- and whose link has a metric
+-- a port whose adjacency is sound, with a neighbour of six octets if it keeps one, where CSNPs are due only if it is
+-- Up, and whose link has a metric
 pub record IsSoundPort (port : BridgePort) : Type 0 where
   pub adjacency : IsSound port.adjacency
   pub neighbour : length port.adjacency.neighbour.mac.bytes ≡ 6
+  pub octets : IsBytes port.adjacency.neighbour.mac.bytes
   pub csnp_due : port.csnp_due ≡ true → is_port_up port ≡ true
   pub metric : IsMetric port.metric
 
@@ -73,11 +75,12 @@ pub record HasConfig (v : BridgeView) : Type 0 where
   pub few_isids : length (different (map (λ a. a.isid.value) v.attached)) ≤ MOST_ISIDS
 
 -- the database: each LSP that is held can be written, and is read again as what is held; what an SNP says of it can be
--- written; flags stand at Up ports alone; number 0 of the bridge's own is held, and no own number as absent; and of the
--- ids that aren't own numbers no more are held than have room
+-- written; its body is octets; flags stand at Up ports alone; number 0 of the bridge's own is held, and no own number as
+-- absent; and of the ids that aren't own numbers no more are held than have room
 pub record HasDatabase (v : BridgeView) : Type 0 where
   pub sendable : AreSendable v.database
   pub sized : AreSized v.database
+  pub octets : HaveOctets v.database
   pub flags : HaveFlagsAt (up_ports v) v.database
   pub own : is_absent (version_at v.database (own_id v.id.system)) ≡ false
   pub present : (number : ℕ) (e : Entry) → number < own_numbers → own_entry v number ≡ Some e
@@ -94,11 +97,12 @@ pub record IsSoundView (v : BridgeView) : Type 0 where
   pub own : IsOwnLspCurrent v
   pub learned : AreLearned v.learned
 
--- so what it says of itself can be written, and fits its LSPs
+-- so what it says of itself can be written, fits its LSPs, and is octets
 pub record CanSay (v : BridgeView) : Type 0 where
   pub local : IsLocal (local_of v)
   pub fields : HasFields (local_of v)
   pub body : HasBodies (own_of v)
+  pub octets : SaysOctets (own_of v)
 
 abbrev pub SoundCanSay : Type 0
 SoundCanSay = (v : BridgeView) → IsSoundView v → CanSay v
@@ -280,7 +284,7 @@ SentIsSound = (input : Input) (v : BridgeView) (p : ℕ) (bytes : List ℕ) → 
 abbrev pub OneHello : Type 0
 OneHello = (v : BridgeView) (p : ℕ) → IsSoundView v → count_by (λ s. (s.0 == p) && is_hello s.1) (sent second v) ≤ 1
 
--- and at a port with carrier and a neighbour of octets, if it keeps one, a hello is sent that is heard
+-- and at a port with carrier a hello is sent that is heard
 pub record IsHelloHeard (v : BridgeView) (p : ℕ) : Type 0 where
   pub bytes : List ℕ
   pub sent : IsSent (sent second v) p bytes
@@ -289,13 +293,9 @@ pub record IsHelloHeard (v : BridgeView) (p : ℕ) : Type 0 where
   pub heard : parsed bytes ≡ parsing.hello hello way
   pub own : IsHelloOf (step second v) p hello way
 
-abbrev pub AreOctets : Option End → Type 0
-AreOctets None = ⊤
-AreOctets (Some n) = IsBytes n.0.mac.bytes
-
 abbrev pub HellosAreHeard : Type 0
 HellosAreHeard = (v : BridgeView) (p : ℕ) → IsSoundView v → has_carrier_at v p ≡ true
-    → IsNamed (neighbour_at (step second v) p) → AreOctets (neighbour_at (step second v) p) → IsHelloHeard v p
+    → IsNamed (neighbour_at (step second v) p) → IsHelloHeard v p
 
 -- and it is sent at a port with carrier
 abbrev pub SentWithCarrier : Type 0

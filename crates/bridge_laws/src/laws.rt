@@ -2,7 +2,7 @@
 ghost use Rattle.bridge_api.specs.Laws.{ConfiguredIsSound, ConfiguredHasNoCarrier, ConfiguredStarts, SoundCanSay, StepsStaySound, StepsKeepBridge, StepsKeepCarrier, StepsKeepNeighbours, SentIsSound, OneHello, HellosAreHeard, SentWithCarrier, LspSettlesNothing, CsnpSettlesNothing, PsnpSettlesNothing, EnteringUpIsWhole, UpPortsAreUp, StepsCarryDatabase, NeighboursComeUp, SomeBridge};
 ghost use Rattle.bridge_laws.specs.Advancing.{StepsAdvance};
 ghost use Rattle.bridge_laws.specs.Apart.{SentHasEntered, LeftHasEntered, ConfiguredIsPlaced, StepsKeepPlaces};
-ghost use Rattle.bridge_api.specs.Duties.{SecondsServe, SecondsLeaveNothingDue};
+ghost use Rattle.bridge_api.specs.Duties.{SecondsServe, LspsAreHeard, RequestsAreHeard, SecondsLeaveNothingDue};
 ghost use Rattle.bridge_laws.specs.Brief.{SentIsBrief};
 ghost use Rattle.bridge_laws.specs.Few.{ConfiguredHoldsFew, StepsHoldFew, StepsBringFew, SecondsSendFew, SecondsSendOwn};
 ghost use Rattle.bridge_api.specs.Graph.{ReadsWhatIsHeld, ReadsEachOnce, ReadsItself, ReadsOthers, OwnPortsAreApart, SaysItsNeighbours, MembersAreSaid, CutSaysNothing, SomeGraphIsOwn};
@@ -15,7 +15,7 @@ use itag_frames::control_again;
 /// A configured bridge is sound, and stays so: unless its sequence numbers are spent, each own LSP in which it has
 /// something to say is live for 301 to 1,200 seconds and says that, and no other is live. It has the ports of its
 /// configuration and no carrier yet, and holds its own LSPs alone, each as it begins above the number that it had in
-/// the life before. What a sound bridge says of itself can be written, and fits its LSPs.
+/// the life before. What a sound bridge says of itself can be written, fits its LSPs, and is octets.
 pub fn bridges_are_sound()
     ensures configured { ConfiguredIsSound }
     ensures no_carrier { ConfiguredHasNoCarrier }
@@ -46,13 +46,15 @@ pub fn steps_keep_neighbours()
 /// Each frame that a sound bridge sends and that is heard as a hello names its sender and port, the state there, and
 /// nobody but the neighbour that is kept; an LSP that is sent is the one that its sender holds, and what a frame claims
 /// is just what its sender holds. Any other frame carries a customer's. In each second one hello is sent at each port
-/// with carrier, and nothing at others. The neighbour that is kept, if one is, has a circuit id of four bytes and a
-/// system id of octets, as in every frame.
+/// with carrier, and nothing at others. The neighbour that is kept, if one is, has a circuit id of four bytes, as in
+/// every frame. Each LSP and each PSNP that is sent in a second is heard as what it is.
 pub fn frames_are_heard()
     ensures sound { SentIsSound }
     ensures one_hello { OneHello }
     ensures heard { HellosAreHeard }
     ensures carrier { SentWithCarrier }
+    ensures lsps { LspsAreHeard }
+    ensures requests { RequestsAreHeard }
 {
     control_again();
 }

@@ -26,3 +26,4 @@ pub mod Few
 pub mod Begun
 pub mod Started
 pub mod NoneHeld
+pub mod Octets

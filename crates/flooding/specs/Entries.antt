@@ -6,7 +6,7 @@ use Rattle.spb_types.specs.declared.ports.PortSet.{PortSet}
 use Rattle.spb_types.specs.Ports.{has}
 use Rattle.isis_pdu.specs.declared.kind.Kind.TheVariants as kinds
 use Rattle.isis_pdu.specs.Spelling.{CanWrite}
-use Rattle.isis_pdu.specs.Grammar.{is_sound_lsp}
+use Rattle.isis_pdu.specs.Grammar.{IsBytes, is_sound_lsp}
 use Rattle.lsdb.specs.declared.version.Version.{Version}
 use Rattle.lsdb.specs.declared.version.Version.TheVariants.{Absent, Live, Dead}
 use Rattle.lsdb.specs.Entry.{Entry, IsClean}
@@ -42,3 +42,7 @@ AreSendable db = AllEntries IsSendable db
 
 abbrev pub HaveFlagsAt : PortSet → Lsps → Type 0
 HaveFlagsAt up db = AllEntries (λ id e. HasFlagsAt up e) db
+
+-- every body that is held is octets
+abbrev pub HaveOctets : Lsps → Type 0
+HaveOctets db = AllEntries (λ id e. IsBytes e.body) db

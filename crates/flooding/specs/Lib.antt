@@ -13,3 +13,4 @@ pub mod Room
 pub mod RoomLaws
 pub mod Starting
 pub mod HeldNumbers
+pub mod OctetLaws

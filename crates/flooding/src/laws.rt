@@ -4,6 +4,7 @@ ghost use Rattle.flooding.specs.Laws.{HearingLspIsCertified, HearingEntryIsCerti
 ghost use Rattle.flooding.specs.Advancing.{AdvancesCompose, LspAdvances, EntryAdvances, OriginationAdvances, PurgeAdvances, SettlingAdvances, AgeingAdvances};
 ghost use Rattle.flooding.specs.SettlingLaws.{SettlingIsCertified, SettlingStands, SettlingLeavesOthers, SettlingLeavesOwn, SettlingLeavesOwnBody, SettlingGoesOneFurther, SettlingDoesntSpend, SettlingBringsFew, SettlingKeepsSendable, SettlingKeepsFlags, SettlingKeepsSilence, SettlingRenews, SettlingSpends, SettledIsCurrent, FreshIsCurrent, CurrentIsSettled, LspKeepsCurrent, EntryKeepsCurrent};
 ghost use Rattle.flooding.specs.Starting.{StartingIsAlone, StartingKeepsSendable, StartingKeepsFlags, StartingKeepsFew, StartingBringsFew, StartingKeepsSilence, StartingLeavesOwnBody};
+ghost use Rattle.flooding.specs.OctetLaws.{LspKeepsOctets, EntryKeepsOctets, SettlingKeepsOctets, StartingKeepsOctets, AgeingKeepsOctets};
 ghost use Rattle.flooding.specs.Room.{most_others};
 ghost use Rattle.flooding.specs.RoomLaws.{FewOwn, OthersAreHeld, RoomFits, PuttingKeepsFew, ChangingKeepsOthers, HearingKeepsFew, BringingKeepsFew, SettlingKeepsFew};
 ghost use Rattle.flooding.specs.declared.origination.TheConstants.{MAX_AGE};
@@ -139,6 +140,16 @@ pub fn flags_stand_at_up_ports()
     ensures lsp { LspKeepsFlags }
     ensures entry { EntryKeepsFlags }
     ensures bringing { BringingKeepsFlags }
+{}
+
+/// Every body that is held stays octets, whatever a life begins with and is heard, brought up to date or aged in it, where
+/// what is heard is octets and the system says octets.
+pub fn bodies_stay_octets()
+    ensures lsp { LspKeepsOctets }
+    ensures entry { EntryKeepsOctets }
+    ensures settling { SettlingKeepsOctets }
+    ensures starting { StartingKeepsOctets }
+    ensures ageing { AgeingKeepsOctets }
 {}
 
 /// An own LSP lives 1,200 seconds when it is originated (ISO/IEC 10589, 7.3.5). `renewed` names this constant.

@@ -1,6 +1,7 @@
 -- The laws of a step of a bridge, on which what is sound of a network rests.
 use Rattle.itag_frames.proofs.ControlLaws.{control_again}
 use Rattle.bridge_api.specs.Laws.{ConfiguredIsSound, ConfiguredHasNoCarrier, StepsStaySound, StepsKeepBridge, StepsKeepCarrier, StepsKeepNeighbours, SentIsSound, OneHello, HellosAreHeard, UpPortsAreUp, StepsCarryDatabase}
+use Rattle.bridge_api.specs.Duties.{LspsAreHeard}
 use Rattle.bridge_laws.specs.Advancing.{StepsAdvance}
 use Rattle.bridge_laws.specs.Brief.{SentIsBrief}
 use Rattle.bridge_laws.specs.Counting.{StepsHoldIds, StepsLearn, StepsLearnVersions, StepsAnswer, StepsOriginate, StepsDontSpend, ConfiguredIsFar}
@@ -16,6 +17,7 @@ use Rattle.bridge_api.proofs.Hellos as hellos
 use Rattle.bridge_laws.proofs.Learning as learning
 use Rattle.bridge_laws.proofs.OneHello as hello
 use Rattle.bridge_laws.proofs.Originating as originating
+use Rattle.bridge_api.proofs.SentHeard as heard
 use Rattle.bridge_api.proofs.Sound as stays
 use Rattle.bridge_api.proofs.SoundPorts as ports
 use Rattle.bridge_laws.proofs.StepsCarry as set_carrier
@@ -48,6 +50,9 @@ sent_is_sound = frames.sent_is_sound control_again
 
 pub hellos_are_heard : HellosAreHeard
 hellos_are_heard = hellos.hellos_are_heard control_again
+
+pub lsps_are_heard : LspsAreHeard
+lsps_are_heard = heard.lsps_are_heard control_again
 
 pub up_ports_are_up : UpPortsAreUp
 up_ports_are_up = up.up_ports_are_up

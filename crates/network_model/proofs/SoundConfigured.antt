@@ -17,7 +17,7 @@ use Rattle.bridge_api.specs.Ticking.{later, expired, counts_lowered, refreshed, 
 use Rattle.bridge_api.specs.Parsing.{parsed}
 use Rattle.bridge_api.specs.Parsing as parsing
 use Rattle.bridge_api.specs.Step.{second, carrier, metric, step}
-use Rattle.bridge_api.specs.Laws.{IsSoundView, IsSent, IsHelloHeard, AreOctets}
+use Rattle.bridge_api.specs.Laws.{IsSoundView, IsSent, IsHelloHeard}
 use Rattle.network_model.proofs.BridgeLaws.{steps_keep_bridge, steps_keep_neighbours, hellos_are_heard}
 use Rattle.network_model.proofs.SoundLane.{IsStill}
 
@@ -93,12 +93,6 @@ first_still c n =
     let still = configured_still c in
     record { id = carriers_up.id ∙ (told.id ∙ still.id); source = carriers_up.source ∙ (told.source ∙ still.source); vids = carriers_up.vids ∙ (told.vids ∙ still.vids) }
 
-pub first_attached : (c : BridgeConfig) (n : ℕ) → (with_first_carrier c n).attached ≡ c.attached
-first_attached c n =
-    (steps_keep_bridge (carrier 1 true) (with_metric 1 n (configured c))).attached
-    ∙ ((steps_keep_bridge (metric 1 n) (configured c)).attached
-    ∙ configured_attached c)
-
 -- what it sends first
 pub first_hello : (c : BridgeConfig) (m n : ℕ) → c.metrics ≡ m ∷ [] → (bytes : List ℕ) × (sent_in_tick (with_first_carrier c n) ≡ (1, bytes) ∷ [])
 first_hello c m n is = (hello_frame (readied (with_first_carrier c n)).id.system 1 (first_port n), hello_sent (with_first_carrier c n) n (first_ports c m n is))
@@ -126,8 +120,8 @@ not_kept v none n kept = elim (steps_keep_neighbours second v 1 n kept) [
   | inr heard ↦ heard
 ]
 
-nobody : (o : Option End) → ((n : End) → o ≡ Some n → ⊥) → IsNamed o × AreOctets o
-nobody None none = (tt, tt)
+nobody : (o : Option End) → ((n : End) → o ≡ Some n → ⊥) → IsNamed o
+nobody None none = tt
 nobody (Some n) none = absurd (none n refl)
 
 only_sent : (s : List (ℕ × List ℕ)) (bytes other : List ℕ) → s ≡ (1, bytes) ∷ [] → IsSent s 1 other → bytes ≡ other
@@ -140,7 +134,7 @@ pub first_heard : (c : BridgeConfig) (m n : ℕ) (is : c.metrics ≡ m ∷ []) �
 first_heard c m n is sound =
     let v : BridgeView = with_first_carrier c n in
     let ports = first_ports c m n is in
-    let named = nobody (neighbour_at (step second v) 1) (not_kept v (carriers_alone v n ports)) in
-    let said : IsHelloHeard v 1 = hellos_are_heard v 1 sound (carriers_carrier v n ports) named.0 named.1 in
+    let named : IsNamed (neighbour_at (step second v) 1) = nobody (neighbour_at (step second v) 1) (not_kept v (carriers_alone v n ports)) in
+    let said : IsHelloHeard v 1 = hellos_are_heard v 1 sound (carriers_carrier v n ports) named in
     let hello = first_hello c m n is in
     record { hello = said.hello; way = said.way; heard = ap parsed (only_sent _ _ _ hello.1 said.sent) ∙ said.heard }

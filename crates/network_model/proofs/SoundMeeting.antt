@@ -10,11 +10,6 @@ use Rattle.spb_types.specs.declared.ports.PortSet.{PortSet}
 use Rattle.spb_types.specs.Ports.{has}
 use Rattle.isis_pdu.specs.Grammar.{IsBytes}
 use Rattle.isis_pdu.specs.Pdu.{LspValue}
-use Rattle.spb_types.specs.Bytes.{lsp_id_bytes}
-use Rattle.isis_pdu.specs.Bytes.{u16_bytes, u32_bytes}
-use Rattle.isis_pdu.specs.declared.kind.Kind.TheVariants as kinds
-use Rattle.isis_pdu.specs.Spelling.{zeros, common_header, length_bytes, lsp_bytes}
-use Rattle.itag_frames.specs.Classify.{content_in}
 use Rattle.spb_tlvs.specs.RoundTrip.{IsNamed}
 use Rattle.itag_frames.proofs.ControlLaws.{control_again}
 use Rattle.lsdb.specs.declared.version.Version.{Version}
@@ -23,36 +18,30 @@ use Rattle.lsdb.specs.Version.{number_of, sum_of, is_absent}
 use Rattle.lsdb.specs.Entry.{Entry}
 use Rattle.lsdb.specs.Database.{version_at, srm_in}
 use Rattle.lsdb.specs.Certificate.{Claim, is_flagged, is_absent as is_none, is_as_before, is_claimed}
-use Rattle.flooding.specs.Own.{own_numbers, own_id, flags_in, tlvs_of_body}
+use Rattle.flooding.specs.Own.{own_numbers, own_id}
 use Rattle.flooding.specs.Hearing.{claim_of}
 use Rattle.flooding.specs.Entries.{IsSendable}
 use Rattle.flooding.proofs.SendableEntries.{sent_is_held}
-use Rattle.spb_content.specs.declared.local.Local.{Local}
-use Rattle.spb_content.specs.Local.{content_bytes}
 use Rattle.flooding.specs.Sending.{lsp_in}
 use Rattle.adjacency.specs.declared.state.AdjState.TheVariants.{Initializing, Up}
 use Rattle.adjacency.specs.declared.port.Adjacency.{Adjacency}
 use Rattle.adjacency.specs.Adjacency.{down, keeping, is_up, neighbour_of, after_second, said}
 use Rattle.bridge_api.specs.declared.port.BridgePort.{BridgePort}
-use Rattle.bridge_api.specs.View.{BridgeView, metrics_of, port_in, neighbour_at, is_port_up, is_up_in, is_up_at, has_carrier_in, has_carrier_at}
-use Rattle.bridge_api.specs.Own.{neighbours_from, member_of, local_of, own_entry, body_in, Lasts, IsAlive}
-use Rattle.bridge_api.specs.Parsing.{parsed, is_octets, by_content}
+use Rattle.bridge_api.specs.View.{BridgeView, port_in, neighbour_at, is_port_up, is_up_in, is_up_at, has_carrier_in, has_carrier_at}
+use Rattle.bridge_api.specs.Own.{own_entry, Lasts, IsAlive}
+use Rattle.bridge_api.specs.Parsing.{parsed}
 use Rattle.bridge_api.specs.Parsing as parsing
-use Rattle.spb_types.specs.declared.drop_reason.DropReason.TheVariants as drop
 use Rattle.bridge_api.specs.Hearing.{with_csnp_due}
 use Rattle.bridge_api.specs.Ticking.{later, readied, hello_frame, lsp_frame, sent_from, sent_in_tick}
 use Rattle.bridge_api.specs.Step.{second, frame, step, sent}
-use Rattle.bridge_api.specs.Laws.{IsSoundView, IsSent, IsHelloHeard, IsFresh, AreOctets, first_of, hearing_from}
+use Rattle.bridge_api.specs.Laws.{IsSoundView, IsSent, IsHelloHeard, IsFresh, first_of, hearing_from}
 use Rattle.bridge_api.specs.Duties.{but_for_ssn}
 use Rattle.bridge_laws.specs.Few.{HoldsFew}
-use Rattle.bridge_api.proofs.Octets.{AreSmall, small_octets, octets_small, small_bytes, small_both}
-use Rattle.bridge_api.proofs.Changes.{readied_ports, readied_rest, tick_ports, when_true}
+use Rattle.bridge_api.proofs.Octets.{AreSmall, small_bytes}
+use Rattle.bridge_api.proofs.Changes.{readied_ports, readied_rest, tick_ports}
 use Rattle.flooding.specs.Settling.{IsLspCurrent}
 use Rattle.flooding.proofs.OwnNumbers.{some_number, few_numbers}
-use Rattle.spb_content.specs.Fragments.{part_of}
-use Rattle.bridge_api.proofs.Bodies.{first_text, first_body}
-use Rattle.bridge_api.proofs.Hellos.{control_small}
-use Rattle.bridge_api.proofs.Spelled.{lsp_taken}
+use Rattle.bridge_api.proofs.Bodies.{first_body}
 use Rattle.bridge_api.proofs.DataSteps.{readied_holds}
 use Rattle.bridge_api.proofs.Meeting.{Starts, heard_down, hello_from, hears}
 use Rattle.bridge_laws.proofs.Entering.{entering_up_is_whole}
@@ -60,7 +49,7 @@ use Rattle.bridge_api.proofs.Serving.{seconds_serve, seconds_leave_nothing_due}
 use Rattle.bridge_laws.proofs.FewHeld.{steps_hold_few}
 use Rattle.bridge_laws.proofs.FewSent.{seconds_send_own}
 use Rattle.network_model.proofs.CountedSent.{hello_sends_none}
-use Rattle.network_model.proofs.BridgeLaws.{steps_stay_sound, steps_keep_bridge, hellos_are_heard, up_ports_are_up, steps_carry_database}
+use Rattle.network_model.proofs.BridgeLaws.{steps_stay_sound, steps_keep_bridge, hellos_are_heard, lsps_are_heard, up_ports_are_up, steps_carry_database}
 
 -- ---- a bridge, seen at its first port
 
@@ -124,10 +113,10 @@ says_hello s a v from one carriers down =
     hello_alone v from.port (only_port s a v from one) (ap (λ (x : Adjacency). (after_second x).carrier) from.adjacency ∙ carriers) (ap (λ (x : Adjacency). is_up (after_second x).state) from.adjacency ∙ down)
 
 -- and that is heard
-hello_from_at : (s : SystemId) (a : Adjacency) (v : BridgeView) → IsSoundView v → Starts s a v → a.carrier ≡ true → IsNamed (neighbour_of (after_second a)) → AreOctets (neighbour_of (after_second a)) → IsHelloHeard v 1
-hello_from_at s a v sound from carriers named octets =
+hello_from_at : (s : SystemId) (a : Adjacency) (v : BridgeView) → IsSoundView v → Starts s a v → a.carrier ≡ true → IsNamed (neighbour_of (after_second a)) → IsHelloHeard v 1
+hello_from_at s a v sound from carriers named =
     let kept : neighbour_at (step second v) 1 ≡ neighbour_of (after_second a) = neighbour_is s (after_second a) (step second v) (second_starts s a v from) in
-    hellos_are_heard v 1 sound (carrier_is s a v from ∙ carriers) (subst IsNamed (sym kept) named) (subst AreOctets (sym kept) octets)
+    hellos_are_heard v 1 sound (carrier_is s a v from ∙ carriers) (subst IsNamed (sym kept) named)
 
 only_sent : (fs : List (ℕ × List ℕ)) (bytes other : List ℕ) → fs ≡ (1, bytes) ∷ [] → IsSent fs 1 other → other ≡ bytes
 only_sent fs bytes other is some = elim (subst (λ (s : List (ℕ × List ℕ)). IsSent s 1 other) is some) [
@@ -155,68 +144,12 @@ pub record HaveFirstCarriers (v w : BridgeView) : Type 0 where
   pub one : length v.ports ≡ 1
   pub other_one : length w.ports ≡ 1
   pub few : HoldsFew 3 v
-  pub id : v.id ≡ record { priority = 32768; system = system 1 }
-  pub source : v.source ≡ record { value = 1 }
-  pub vids : v.vids ≡ record { vid = record { value = 100 }; ect = 1 } ∷ []
-  pub attached : v.attached ≡ []
-  pub metrics : metrics_of v.ports ≡ 10 ∷ []
-
--- ---- the frame of an LSP of octets
-
-flags_small : (body : List ℕ) → AreSmall body → (flags_in body < 256) × AreSmall (tlvs_of_body body)
-flags_small [] small = (omega arith, tt)
-flags_small (flags ∷ tlvs) small = (small.0, small.1)
-
--- the numbers of an LSP fit its fields
-record Fit (l : LspValue) : Type 0 where
-  lifetime : l.lifetime < 65536
-  seq : l.seq < 4294967296
-  sum : l.sum < 65536
-  short : 27 + length l.tlvs ≤ 1497
-
-two_small : (n : ℕ) → n < 65536 → AreSmall (u16_bytes n)
-two_small n fits = (omega (arith, fits), (omega arith, tt))
-
-four_small : (n : ℕ) → n < 4294967296 → AreSmall (u32_bytes n)
-four_small n fits = (omega (arith, fits), (omega arith, (omega arith, (omega arith, tt))))
-
-lsp_small : (n : ℕ) (e : Entry) → n < 256 → Fit (lsp_in (own_id (system n)) e) → AreSmall e.body → AreSmall (lsp_frame (system n) (lsp_in (own_id (system n)) e))
-unfolding lsp_frame lsp_bytes
-lsp_small n e low fit small =
-    let l : LspValue = lsp_in (own_id (system n)) e in
-    let body = flags_small e.body small in
-    let start : List ℕ = common_header zeros kinds.Lsp in
-    let sized : List ℕ = start ++ length_bytes kinds.Lsp l.tlvs in
-    let timed : List ℕ = sized ++ u16_bytes l.lifetime in
-    let named : List ℕ = timed ++ lsp_id_bytes l.id in
-    let numbered : List ℕ = named ++ u32_bytes l.seq in
-    let summed : List ℕ = numbered ++ u16_bytes l.sum in
-    let flagged : List ℕ = summed ++ l.flags ∷ [] in
-    let id_small : AreSmall (lsp_id_bytes l.id) = small_both (system n).mac.bytes (0 ∷ 0 ∷ []) (address_small n low) (omega arith, (omega arith, tt)) in
-    let sized_small : AreSmall sized = small_both start (length_bytes kinds.Lsp l.tlvs) (small_octets start refl) (two_small (27 + length l.tlvs) (omega (arith, fit.short))) in
-    let timed_small : AreSmall timed = small_both sized (u16_bytes l.lifetime) sized_small (two_small l.lifetime fit.lifetime) in
-    let named_small : AreSmall named = small_both timed (lsp_id_bytes l.id) timed_small id_small in
-    let numbered_small : AreSmall numbered = small_both named (u32_bytes l.seq) named_small (four_small l.seq fit.seq) in
-    let summed_small : AreSmall summed = small_both numbered (u16_bytes l.sum) numbered_small (two_small l.sum fit.sum) in
-    let flagged_small : AreSmall flagged = small_both summed (l.flags ∷ []) summed_small (body.0, tt) in
-    control_small (system n).mac (lsp_bytes l) (address_small n low) (small_both flagged l.tlvs flagged_small body.1)
-
-lsp_heard : (n : ℕ) (e : Entry) → n < 256 → IsSendable (own_id (system n)) e → Fit (lsp_in (own_id (system n)) e) → AreSmall e.body → parsed (lsp_frame (system n) (lsp_in (own_id (system n)) e)) ≡ parsing.lsp (lsp_in (own_id (system n)) e)
-unfolding parsed
-lsp_heard n e low sendable fit small =
-    let bytes : List ℕ = lsp_frame (system n) (lsp_in (own_id (system n)) e) in
-    when_true (is_octets bytes) (by_content (content_in bytes)) (parsing.dropped drop.Frame) (octets_small bytes (lsp_small n e low fit small))
-    ∙ lsp_taken control_again (system n) (own_id (system n)) e refl refl sendable
 
 -- ---- what is held, but for its SSN flags
 
 srm_but : (o : Option Entry) → srm_in (but_for_ssn o) ≡ srm_in o
 srm_but None = refl
 srm_but (Some e) = refl
-
-body_but : (o : Option Entry) → body_in (but_for_ssn o) ≡ body_in o
-body_but None = refl
-body_but (Some e) = refl
 
 alive_but : (o : Option Entry) → IsAlive o → IsAlive (but_for_ssn o)
 alive_but None alive = alive
@@ -234,21 +167,6 @@ pub record SaysLsp (v : BridgeView) : Type 0 where
   pub number : ℕ
   pub sum : ℕ
   pub live : (claim_of lsp).version ≡ Live number sum
-
--- what the first bridge says of itself, when it has met the other
-abbrev own_local : Local
-own_local = record {
-  config = record { id = record { priority = 32768; system = system 1 }; source = record { value = 1 }; vids = record { vid = record { value = 100 }; ect = 1 } ∷ [] };
-  neighbours = record { system = system 2; metric = 10; port = 1 } ∷ [];
-  attached = [];
-}
-
-own_small : AreSmall (1 ∷ content_bytes own_local)
-unfolding content_bytes
-own_small = small_octets (1 ∷ content_bytes own_local) refl
-
-one_metric : (port : BridgePort) → metrics_of (port ∷ []) ≡ 10 ∷ [] → port.metric ≡ 10
-one_metric port is = cc
 
 module _ (v w : BridgeView) (carriers : HaveFirstCarriers v w) where
   -- the first says a hello, and the other hears it
@@ -299,7 +217,7 @@ module _ (v w : BridgeView) (carriers : HaveFirstCarriers v w) where
 
   met_few : HoldsFew 5 met
   met_few =
-      let said_so : IsHelloHeard asking 1 = hello_from_at (system 2) (keeping Initializing (system 1, 1) 3) asking asking_sound asking_starts refl (refl, omega arith) (octets 1 (omega arith)) in
+      let said_so : IsHelloHeard asking 1 = hello_from_at (system 2) (keeping Initializing (system 1, 1) 3) asking asking_sound asking_starts refl (refl, omega arith) in
       let bytes : List ℕ = first_of (sent second asking) in
       let heard : parsed bytes ≡ parsing.hello said_so.hello said_so.way = ap parsed (sym (only_sent (sent second asking) bytes said_so.bytes says_second said_so.sent)) ∙ said_so.heard in
       steps_hold_few 4 (frame 1 bytes) asked (omega arith) (said_so.hello, said_so.way, heard) (steps_hold_few 3 second v (omega arith) tt carriers.few)
@@ -308,14 +226,14 @@ module _ (v w : BridgeView) (carriers : HaveFirstCarriers v w) where
   pub first_quiet : (u : BridgeView) → sent (frame 1 (first_of (sent second v))) u ≡ []
   first_quiet u =
       let bytes : List ℕ = first_of (sent second v) in
-      let said_so : IsHelloHeard v 1 = hello_from_at (system 1) (down true) v carriers.sound carriers.first refl tt tt in
+      let said_so : IsHelloHeard v 1 = hello_from_at (system 1) (down true) v carriers.sound carriers.first refl tt in
       let heard : parsed bytes ≡ parsing.hello said_so.hello said_so.way = ap parsed (sym (only_sent (sent second v) bytes said_so.bytes says_first said_so.sent)) ∙ said_so.heard in
       hello_sends_none 1 bytes u said_so.hello said_so.way heard
 
   pub second_quiet : (u : BridgeView) → sent (frame 1 (first_of (sent second asking))) u ≡ []
   second_quiet u =
       let bytes : List ℕ = first_of (sent second asking) in
-      let said_so : IsHelloHeard asking 1 = hello_from_at (system 2) (keeping Initializing (system 1, 1) 3) asking asking_sound asking_starts refl (refl, omega arith) (octets 1 (omega arith)) in
+      let said_so : IsHelloHeard asking 1 = hello_from_at (system 2) (keeping Initializing (system 1, 1) 3) asking asking_sound asking_starts refl (refl, omega arith) in
       let heard : parsed bytes ≡ parsing.hello said_so.hello said_so.way = ap parsed (sym (only_sent (sent second asking) bytes said_so.bytes says_second said_so.sent)) ∙ said_so.heard in
       hello_sends_none 1 bytes u said_so.hello said_so.way heard
 
@@ -330,7 +248,7 @@ module _ (v w : BridgeView) (carriers : HaveFirstCarriers v w) where
       omega (arith, few, few_numbers)
 
   pub hello_sent : IsHelloHeard met 1
-  hello_sent = hello_from_at (system 1) (keeping Up (system 2, 1) 3) met met_sound met_starts refl (refl, omega arith) (octets 2 (omega arith))
+  hello_sent = hello_from_at (system 1) (keeping Up (system 2, 1) 3) met met_sound met_starts refl (refl, omega arith)
 
   -- ---- its own LSP
 
@@ -382,68 +300,33 @@ module _ (v w : BridgeView) (carriers : HaveFirstCarriers v w) where
   ready_flagged : has (srm_in (get (readied met).database id)) 1 ≡ true
   ready_flagged = ap (λ (set : PortSet). has set 1) (sym (srm_but (get (readied met).database id)) ∙ (ap srm_in (sym originates) ∙ srm_but (get after.database id))) ∙ still_flagged
 
-  -- it says what the bridge has to say, and is alive
+  -- it is alive
   unspent : after.spent ≡ false
   unspent = (steps_hold_few 5 second met (omega arith) tt met_few).unspent
 
-  after_local : local_of after ≡ own_local
-  after_local =
-      let to_met = steps_keep_bridge (frame 1 (first_of (sent second asking))) asked in
-      let first = steps_keep_bridge second v in
-      let last = steps_keep_bridge second met in
-      let own : after.id ≡ record { priority = 32768; system = system 1 } = last.id ∙ (to_met.id ∙ (first.id ∙ carriers.id)) in
-      let source : after.source ≡ record { value = 1 } = last.source ∙ (to_met.source ∙ (first.source ∙ carriers.source)) in
-      let vids : after.vids ≡ record { vid = record { value = 100 }; ect = 1 } ∷ [] = last.vids ∙ (to_met.vids ∙ (first.vids ∙ carriers.vids)) in
-      let attached : after.attached ≡ [] = last.attached ∙ (to_met.attached ∙ (first.attached ∙ carriers.attached)) in
-      let metrics : metrics_of after.ports ≡ 10 ∷ [] = last.metrics ∙ (to_met.metrics ∙ (first.metrics ∙ carriers.metrics)) in
-      let ports : after.ports ≡ after_starts.port ∷ [] = only_port (system 1) (keeping Up (system 2, 1) 2) after after_starts (last.ports ∙ met_one) in
-      let metric : after_starts.port.metric ≡ 10 = one_metric after_starts.port (ap metrics_of (sym ports) ∙ metrics) in
-      let neighbours : neighbours_from 1 after.ports ≡ record { system = system 2; metric = 10; port = 1 } ∷ [] =
-      ap (neighbours_from 1) ports
-      ∙ (λ j. if is_up (after_starts.adjacency j).state then record { system = (after_starts.adjacency j).neighbour; metric = metric j; port = 1 } ∷ [] else []) in
-      λ j. record {
-        config = record { id = own j; source = source j; vids = vids j };
-        neighbours = neighbours j;
-        attached = map (member_of (own j).system) (attached j);
-      }
-
-  says : (body_in (own_entry after 0) ≡ first_text after) × IsAlive (own_entry after 0)
-  says = subst (λ (b : Option (List ℕ)). IsLspCurrent b (own_entry after 0)) (first_body after) (after_sound.own.current unspent 0 (omega (arith, some_number)))
-
-  -- it has no services, so that number 0 says all
-  all_is_first : content_bytes (part_of 0 (local_of after)) ≡ content_bytes own_local
-  all_is_first = ap (λ (l : Local). content_bytes (part_of 0 l)) after_local
-
-  ready_body : body_in (get (readied met).database id) ≡ 1 ∷ content_bytes own_local
-  ready_body =
-      sym (body_but (get (readied met).database id)) ∙ (ap body_in (sym originates) ∙ (body_but (get after.database id)
-      ∙ (ap (λ (s : SystemId). body_in (get after.database (own_id s))) (sym after_starts.id)
-      ∙ (says.0 ∙ ap (λ (tlvs : List ℕ). 1 ∷ tlvs) all_is_first))))
+  alive : IsAlive (own_entry after 0)
+  alive = (subst (λ (b : Option (List ℕ)). IsLspCurrent b (own_entry after 0)) (first_body after) (after_sound.own.current unspent 0 (omega (arith, some_number)))).1
 
   ready_alive : IsAlive (but_for_ssn (get (readied met).database id))
-  ready_alive = subst IsAlive originates (alive_but (get after.database id) (subst (λ (s : SystemId). IsAlive (get after.database (own_id s))) after_starts.id says.1))
+  ready_alive = subst IsAlive originates (alive_but (get after.database id) (subst (λ (s : SystemId). IsAlive (get after.database (own_id s))) after_starts.id alive))
 
   -- so it is sent, and heard as a live LSP
-  own_sent : (o : Option Entry) → get (readied met).database id ≡ o → has (srm_in o) 1 ≡ true → body_in o ≡ 1 ∷ content_bytes own_local → IsAlive (but_for_ssn o) → SaysLsp met
-  own_sent None held on body alive = absurd alive
-  own_sent (Some e) held on body alive =
+  own_sent : (o : Option Entry) → get (readied met).database id ≡ o → has (srm_in o) 1 ≡ true → IsAlive (but_for_ssn o) → SaysLsp met
+  own_sent None held on lasts = absurd lasts
+  own_sent (Some e) held on lasts =
       let u : BridgeView = readied met in
       let from : Starts (system 1) (keeping Up (system 2, 1) 2) u = readied_starts (system 1) (keeping Up (system 2, 1) 3) met met_starts in
-      let database = readied_holds met met_sound in
-      let sendable : IsSendable id e = database.sendable id e held in
-      let sized = database.sized id e held in
+      let sendable : IsSendable id e = (readied_holds met met_sound).sendable id e held in
       let l : LspValue = lsp_in id e in
       let served = seconds_serve met 1 met_sound (up_is (system 1) (keeping Up (system 2, 1) 2) u from) in
-      let fit : Fit l = record { lifetime = sized.entry.lifetime; seq = sized.entry.seq; sum = sized.entry.sum; short = sendable.written.short } in
-      let small : AreSmall e.body = subst AreSmall (sym body) own_small in
       record {
-        bytes = lsp_frame (system 1) l;
-        sent = subst (λ (s : SystemId). IsSent (sent second met) 1 (lsp_frame s l)) from.id (served.lsps id e held on);
+        bytes = lsp_frame u.id.system l;
+        sent = served.lsps id e held on;
         lsp = l;
-        heard = lsp_heard 1 e (omega arith) sendable fit small;
+        heard = lsps_are_heard met id e met_sound held;
         number = number_of e.version;
         sum = sum_of e.version;
-        live = ap (λ (c : Claim). c.version) (sent_is_held id e sendable) ∙ live_of e.version e.lifetime alive;
+        live = ap (λ (c : Claim). c.version) (sent_is_held id e sendable) ∙ live_of e.version e.lifetime lasts;
       }
     where
       live_of : (a : Version) (lifetime : ℕ) → Lasts a lifetime → a ≡ Live (number_of a) (sum_of a)
@@ -452,4 +335,4 @@ module _ (v w : BridgeView) (carriers : HaveFirstCarriers v w) where
       live_of (Dead seq) lifetime lasts = absurd lasts
 
   pub lsp_sent : SaysLsp met
-  lsp_sent = own_sent (get (readied met).database id) refl ready_flagged ready_body ready_alive
+  lsp_sent = own_sent (get (readied met).database id) refl ready_flagged ready_alive

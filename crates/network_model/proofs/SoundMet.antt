@@ -10,7 +10,7 @@ use Rattle.scenario.specs.declared.command.Command.TheVariants as command
 use Rattle.spb_types.specs.declared.link.Dir.TheVariants.{Ab, Ba}
 use Rattle.adjacency.specs.Adjacency.{down}
 use Rattle.bridge_api.specs.declared.config.BridgeConfig.{BridgeConfig}
-use Rattle.bridge_api.specs.View.{BridgeView, metrics_of}
+use Rattle.bridge_api.specs.View.{BridgeView}
 use Rattle.bridge_api.specs.Config.{first_life, configured}
 use Rattle.bridge_api.specs.Parsing.{Parsed}
 use Rattle.bridge_api.specs.Step.{second, frame, carrier, metric, step, sent}
@@ -34,7 +34,7 @@ use Rattle.network_model.specs.SoundLaws.{AreAccepted}
 use Rattle.network_model.specs.DeliveryLaws.{frames_at, pushed_all}
 use Rattle.network_model.specs.MeetingLaws.{HaveMet, SomeBridgesMeet}
 use Rattle.spb_world.proofs.ListLemmas.{length-push}
-use Rattle.network_model.proofs.SoundConfigured.{with_first_carrier, first_port, first_ports, first_still, first_attached}
+use Rattle.network_model.proofs.SoundConfigured.{with_first_carrier, first_port, first_ports, first_still}
 use Rattle.network_model.proofs.SoundMeeting.{system, HaveFirstCarriers, SaysLsp, met, says_first, says_second, first_quiet, second_quiet, met_up, few_sent, hello_sent, lsp_sent}
 use Rattle.network_model.proofs.SoundPlay.{networks_are_sound}
 use Rattle.network_model.proofs.SoundWitness.{source, box, start, declarations, declaring}
@@ -231,7 +231,6 @@ both_sound =
 
 have_first_carriers : HaveFirstCarriers (with_first_carrier (config 1) 10) (with_first_carrier (config 2) 10)
 have_first_carriers =
-    let first = first_still (config 1) 10 in
     record {
       first = starts_with_carrier (config 1) 1 10 refl;
       other = starts_with_carrier (config 2) 1 10 refl;
@@ -240,11 +239,6 @@ have_first_carriers =
       one = ap length (first_ports (config 1) 1 10 refl);
       other_one = ap length (first_ports (config 2) 1 10 refl);
       few = few_with_carrier (config 1) 10 refl;
-      id = first.id;
-      source = first.source;
-      vids = first.vids;
-      attached = first_attached (config 1) 10;
-      metrics = ap metrics_of (first_ports (config 1) 1 10 refl);
     }
 
 all_met : Leads (at (with_first_carrier (config 1) 10) (with_first_carrier (config 2) 10) [] [] 4 (0, 0)) conversation

@@ -15,3 +15,4 @@ pub mod Advancing
 pub mod Fields
 pub mod Gleaned
 pub mod Silent
+pub mod Octets

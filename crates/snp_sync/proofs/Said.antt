@@ -50,7 +50,7 @@ of_joined : (P : SnpEntry → Type 0) (ps : List (List SnpEntry)) → AllByRecur
 of_joined P [] all = tt
 of_joined P (p ∷ ps) all = let both = all_both P p (joined ps) all in (both.0, of_joined P ps both.1)
 
-of_psnp_chunks : (P : SnpEntry → Type 0) (n : ℕ) (entries : List SnpEntry) → 1 ≤ n → AllByRecursion P entries → AllByRecursion (AllByRecursion P) (chunks n entries)
+pub of_psnp_chunks : (P : SnpEntry → Type 0) (n : ℕ) (entries : List SnpEntry) → 1 ≤ n → AllByRecursion P entries → AllByRecursion (AllByRecursion P) (chunks n entries)
 of_psnp_chunks P n entries some all = of_joined P (chunks n entries) (subst (λ (ls : List SnpEntry). AllByRecursion P ls) (sym (joined_chunks n entries some)) all)
 
 of_csnp_chunks : (P : SnpEntry → Type 0) (start : LspId) (ps : List (List SnpEntry)) → AllByRecursion (AllByRecursion P) ps → AllByRecursion (λ chunk. AllByRecursion P chunk.entries) (csnp_chunks_from start ps)

@@ -20,8 +20,9 @@ use Rattle.flooding.specs.Hearing.{Holding, HasFewOthers, hear_lsp_of, hear_entr
 use Rattle.flooding.specs.Origination.{originated}
 use Rattle.flooding.specs.Settling.{Test, settled_by, AreCurrent}
 use Rattle.flooding.specs.Starting.{started_all}
-use Rattle.flooding.specs.Entries.{IsNumbered, AreSendable, HaveFlagsAt}
+use Rattle.flooding.specs.Entries.{IsNumbered, AreSendable, HaveFlagsAt, HaveOctets}
 use Rattle.flooding.specs.Laws.{control, HasBodies, IsOwnBody}
+use Rattle.flooding.specs.OctetLaws.{SaysOctets}
 use Rattle.snp_sync.specs.Sized.{IsLspId, IsSized, AreSized, IsSizedEntry}
 use Rattle.snp_sync.specs.Hearing.{claim_in, claims_in, hear_entries_of, ids_of, is_among, is_missed, flag_if, hear_csnp_of}
 
@@ -142,6 +143,15 @@ EntriesKeepFlags = (up : PortSet) (port : ℕ) (claims : List Claim) (h : Holdin
 abbrev pub CsnpKeepsFlags : Type 0
 CsnpKeepsFlags = (up : PortSet) (port : ℕ) (start end : LspId) (claims : List Claim) (h : Holding) → has up port ≡ true
     → HaveFlagsAt up h.db → HaveFlagsAt up (hear_csnp_of up port start end claims h).db
+
+-- its body is octets
+abbrev pub EntriesKeepOctets : Type 0
+EntriesKeepOctets = (up : PortSet) (port : ℕ) (claims : List Claim) (h : Holding) → SaysOctets h.own
+    → HaveOctets h.db → HaveOctets (hear_entries_of up port claims h).db
+
+abbrev pub CsnpKeepsOctets : Type 0
+CsnpKeepsOctets = (up : PortSet) (port : ℕ) (start end : LspId) (claims : List Claim) (h : Holding) → SaysOctets h.own
+    → HaveOctets h.db → HaveOctets (hear_csnp_of up port start end claims h).db
 
 -- a PDU can tell of it: after what was heard, if that could be
 abbrev pub EntriesKeepSized : Type 0

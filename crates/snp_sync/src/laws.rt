@@ -1,5 +1,5 @@
 //! The laws of sequence numbers PDUs. Each is the contract of a function that does nothing.
-ghost use Rattle.snp_sync.specs.HearingLaws.{EntriesAreCertified, CsnpIsCertified, UnnamedStands, LastClaimStands, EntryIsServed, CsnpStands, MissedIsSent, EntriesLeaveOwn, EntriesDontSpend, EntriesLeaveOwnBody, CsnpLeavesOwnBody, EntriesKeepCurrent, CsnpKeepsCurrent, ClaimsAreNumbered, EntriesKeepFew, CsnpKeepsFew, EntriesKeepSendable, CsnpKeepsSendable, EntriesKeepFlags, CsnpKeepsFlags, EntriesKeepSized, CsnpKeepsSized, LspKeepsSized, OriginationKeepsSized, SettlingKeepsSized, StartingKeepsSized, AgeingKeepsSized, FlagsKeepSized};
+ghost use Rattle.snp_sync.specs.HearingLaws.{EntriesAreCertified, CsnpIsCertified, UnnamedStands, LastClaimStands, EntryIsServed, CsnpStands, MissedIsSent, EntriesLeaveOwn, EntriesDontSpend, EntriesLeaveOwnBody, CsnpLeavesOwnBody, EntriesKeepCurrent, CsnpKeepsCurrent, ClaimsAreNumbered, EntriesKeepFew, CsnpKeepsFew, EntriesKeepSendable, CsnpKeepsSendable, EntriesKeepFlags, CsnpKeepsFlags, EntriesKeepOctets, CsnpKeepsOctets, EntriesKeepSized, CsnpKeepsSized, LspKeepsSized, OriginationKeepsSized, SettlingKeepsSized, StartingKeepsSized, AgeingKeepsSized, FlagsKeepSized};
 ghost use Rattle.snp_sync.specs.Advancing.{EntriesAdvance, CsnpAdvances};
 ghost use Rattle.snp_sync.specs.SendingLaws.{SuccessorIsNext, SuccessorIsId, EntryClaimsWhatIsHeld, RangesCoverOnce, CsnpChunksListTheirRanges, CsnpChunksAreShort, CsnpChunksEndAtIds, CsnpChunksClaimWhatIsHeld, CsnpChunksListWhatIsHeld, CsnpIsRead, EntriesAreRead, CsnpEntriesAreRead, CsnpEntriesAreSized, PsnpChunksAreWhole, PsnpChunksAreShort, PsnpChunksClaimWhatIsHeld, PsnpChunksListWhatIsHeld, PsnpIsRead, PsnpEntriesAreRead, PsnpEntriesAreSized, SsnIsCleared, ClearingSsnIsCertified};
 
@@ -82,7 +82,8 @@ pub fn own_lsps_advance()
 {}
 
 /// After entries or a CSNP were heard at an Up port, each LSP that is held can still be written and is read again, and
-/// flags stand at Up ports alone; and of the ids that aren't own numbers no more are held than have room.
+/// flags stand at Up ports alone; bodies are still octets, where the system says octets; and of the ids that aren't own
+/// numbers no more are held than have room.
 pub fn entries_stay_sound()
     ensures numbered { ClaimsAreNumbered }
     ensures few { EntriesKeepFew }
@@ -91,6 +92,8 @@ pub fn entries_stay_sound()
     ensures csnp_sendable { CsnpKeepsSendable }
     ensures flags { EntriesKeepFlags }
     ensures csnp_flags { CsnpKeepsFlags }
+    ensures octets { EntriesKeepOctets }
+    ensures csnp_octets { CsnpKeepsOctets }
 {}
 
 /// Of every LSP that is held an entry of a PDU can tell, whatever a life begins with and is heard, originated or aged in

@@ -48,7 +48,7 @@ whole_several code f (x ∷ xs) rest h =
 neighbour_len : (n : Neighbour) → IsMac n.system.mac → length (neighbour_bytes n) ≡ 19
 neighbour_len n h = simp length-append (omega (arith, h))
 
-neighbours_len : (ns : List Neighbour) → AllByRecursion IsNeighbour ns → length (neighbours_value ns) ≡ 19 * length ns
+pub neighbours_len : (ns : List Neighbour) → AllByRecursion IsNeighbour ns → length (neighbours_value ns) ≡ 19 * length ns
 neighbours_len [] each = omega arith
 neighbours_len (n ∷ ns) each = omega (arith, length-append (neighbour_bytes n) (neighbours_value ns), neighbour_len n each.0.system, neighbours_len ns each.1)
 
@@ -62,7 +62,7 @@ few_len (suc k) ns each =
 
 -- ---- the services: 14 bytes for a base VID, and four for an I-SID
 
-services_tlv_len : (mac : Mac) (v : Vid) (ss : List Service) → IsMac mac → length (capability_tlv (Services mac v ss)) ≡ 14 + 4 * length ss
+pub services_tlv_len : (mac : Mac) (v : Vid) (ss : List Service) → IsMac mac → length (capability_tlv (Services mac v ss)) ≡ 14 + 4 * length ss
 services_tlv_len mac v ss h = simp length-append (omega (arith, h, services_len ss))
 
 -- the I-SIDs of some base VIDs
@@ -150,7 +150,7 @@ isids_within_all l one =
 
 -- ---- the whole
 
-inst_tlv_len : (l : Local) → length (inst_tlv l) ≡ 25 + 8 * length (trees_of l)
+pub inst_tlv_len : (l : Local) → length (inst_tlv l) ≡ 25 + 8 * length (trees_of l)
 inst_tlv_len l = simp length-append (omega (arith, trees_len (trees_of l)))
 
 content_whole : (l : Local) → IsTrue (is_whole (content_bytes l))

@@ -24,3 +24,4 @@ pub mod Listed
 pub mod Parts
 pub mod Told
 pub mod Fitting
+pub mod Octets

@@ -10,6 +10,7 @@ use Rattle.spb_types.specs.declared.service.VidPlan.{VidPlan}
 use Rattle.isis_pdu.specs.declared.kind.Kind.TheVariants as kinds
 use Rattle.isis_pdu.specs.Header.{fixed_length}
 use Rattle.isis_pdu.specs.Tlvs.{is_whole}
+use Rattle.isis_pdu.specs.Grammar.{IsBytes}
 use Rattle.spb_tlvs.specs.RoundTrip.{IsMac, IsNeighbour}
 use Rattle.spb_content.specs.declared.local.Local.{Local}
 use Rattle.spb_content.specs.Local.{IsLocal, IsPart, plan_number, vid_number, isid_number, trees_of, vids_in, isids_in, own_mac, said_by, content_bytes}
@@ -82,6 +83,15 @@ abbrev pub OwnFits : Type 0
 OwnFits = (l : Local) → IsPart l → HasFields l → AreConfigured l → length l.neighbours ≤ MOST_PORTS
     → Fits (content_bytes l)
 
+-- the own id and those of the neighbours are octets
+pub record HasOctets (l : Local) : Type 0 where
+  pub mac : IsBytes (own_mac l).bytes
+  pub neighbours : AllByRecursion (λ n. IsBytes n.system.mac.bytes) l.neighbours
+
+-- so then is what is written
+abbrev pub ContentIsOctets : Type 0
+ContentIsOctets = (l : Local) → IsPart l → HasFields l → HasOctets l → IsBytes (content_bytes l)
+
 -- ---- fragments
 
 -- a bridge has at most so many services as I-SIDs
@@ -114,6 +124,11 @@ FragmentsAreFirst = (l : Local) (j k : ℕ) → j ≤ k → fragment l j ≡ Non
 abbrev pub FragmentsFit : Type 0
 FragmentsFit = (l : Local) (k : ℕ) (tlvs : List ℕ) → IsLocal l → HasFields l → AreConfigured l
     → length l.neighbours ≤ MOST_PORTS → fragment l k ≡ Some tlvs → Fits tlvs
+
+-- each fragment is octets
+abbrev pub FragmentsAreOctets : Type 0
+FragmentsAreOctets = (l : Local) (k : ℕ) (tlvs : List ℕ) → IsLocal l → HasFields l → HasOctets l
+    → fragment l k ≡ Some tlvs → IsBytes tlvs
 
 -- ---- the graph of all that is said
 

@@ -1,6 +1,6 @@
 //! The laws of what is written and read, and of the graph of all that is said. Each is the contract of a function that
 //! does nothing.
-ghost use Rattle.spb_content.specs.Laws.{ReadAgain, SameIsWritten, WrittenIsSame, OrderSaysNothingOfContent, TreesAscend, VidsAscend, IsidsAscend, OwnFits, ServicesAreFew, FragmentsAreRead, OthersSayServices, FewAreOne, FragmentsAreFirst, FragmentsFit, SaidGraphHasAllLinks};
+ghost use Rattle.spb_content.specs.Laws.{ReadAgain, SameIsWritten, WrittenIsSame, OrderSaysNothingOfContent, TreesAscend, VidsAscend, IsidsAscend, OwnFits, ServicesAreFew, FragmentsAreRead, OthersSayServices, FewAreOne, FragmentsAreFirst, FragmentsFit, ContentIsOctets, FragmentsAreOctets, SaidGraphHasAllLinks};
 
 /// What a bridge of at most 60 I-SIDs writes in one is read as what it says.
 pub fn content_again()
@@ -51,6 +51,12 @@ pub fn fragments_are_first()
 /// Each fragment of a bridge of at most 32 ports fits into one LSP.
 pub fn fragments_fit()
     ensures { FragmentsFit }
+{}
+
+/// What a bridge writes is octets, in one or in fragments, if its id and those of its neighbours are.
+pub fn content_is_octets()
+    ensures one { ContentIsOctets }
+    ensures fragments { FragmentsAreOctets }
 {}
 
 /// The graph of all that is said, reached or not, is valid, and has the costs and ports that are said, where at most
