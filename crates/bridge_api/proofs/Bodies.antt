@@ -29,31 +29,30 @@ in_lsp fragment = option_map (λ tlvs. LEVEL_1 ∷ tlvs) fragment
 abbrev said_at : List (Option (List ℕ)) → ℕ → Option (List ℕ)
 said_at bodies j = option_and_then (λ (b : Option (List ℕ)). b) (slice_get bodies j)
 
+-- those of the fragments from number k on, where those from number k + 1 on are so
+from : (l : Local) (n k j : ℕ) (o : Option (List ℕ)) → fragment l k ≡ o
+    → ((i : ℕ) → i < n → said_at (bodies_saying LEVEL_1 (fragments_from l n (k + 1))) i ≡ in_lsp (fragment l (k + 1 + i)))
+    → j < suc n → said_at (bodies_saying LEVEL_1 (o ∷ fragments_from l n (k + 1))) j ≡ in_lsp (fragment l (k + j))
+from l n k j None is rest low =
+    ap (λ bs. said_at bs j) (none_said l LEVEL_1 k n (k + 1) (omega arith) is)
+    ∙ ap in_lsp (sym (fragments_are_first l k (k + j) (omega arith) is))
+from l n k zero (Some tlvs) is rest low = let same : k ≡ k + zero = omega arith in ap in_lsp (sym is ∙ ap (λ i. fragment l i) same)
+from l n k (suc j) (Some tlvs) is rest low =
+    let same : k + 1 + j ≡ k + suc j = omega arith in rest j (omega (arith, low)) ∙ ap (λ i. in_lsp (fragment l i)) same
+
 there : (l : Local) (n k j : ℕ) → j < n → said_at (bodies_saying LEVEL_1 (fragments_from l n k)) j ≡ in_lsp (fragment l (k + j))
 there l zero k j low = absurd (omega (arith, low))
-there l (suc n) k j low = by (fragment l k) j low refl
-  where
-    rest : List (Option (List ℕ))
-    rest = fragments_from l n (k + 1)
-    by : (o : Option (List ℕ)) (i : ℕ) → i < suc n → fragment l k ≡ o → said_at (bodies_saying LEVEL_1 (o ∷ rest)) i ≡ in_lsp (fragment l (k + i))
-    by None i low is =
-        ap (λ bs. said_at bs i) (none_said l LEVEL_1 k n (k + 1) (omega arith) is)
-        ∙ ap in_lsp (sym (fragments_are_first l k (k + i) (omega arith) is))
-    by (Some tlvs) zero low is = let same : k ≡ k + zero = omega arith in ap in_lsp (sym is ∙ ap (fragment l) same)
-    by (Some tlvs) (suc i) low is =
-        let same : k + 1 + i ≡ k + suc i = omega arith in
-        there l n (k + 1) i (omega (arith, low)) ∙ ap (λ m. in_lsp (fragment l m)) same
+there l (suc n) k j low = from l n k j (fragment l k) refl (λ i below. there l n (k + 1) i below) low
+
+no_more : (l : Local) (n k j : ℕ) (o : Option (List ℕ)) → ((i : ℕ) → n ≤ i → said_at (bodies_saying LEVEL_1 (fragments_from l n (k + 1))) i ≡ None)
+    → suc n ≤ j → said_at (bodies_saying LEVEL_1 (o ∷ fragments_from l n (k + 1))) j ≡ None
+no_more l n k j None rest high = rest j (omega (arith, high))
+no_more l n k zero (Some tlvs) rest high = absurd (omega (arith, high))
+no_more l n k (suc j) (Some tlvs) rest high = rest j (omega (arith, high))
 
 not_there : (l : Local) (n k j : ℕ) → n ≤ j → said_at (bodies_saying LEVEL_1 (fragments_from l n k)) j ≡ None
 not_there l zero k j high = refl
-not_there l (suc n) k zero high = absurd (omega (arith, high))
-not_there l (suc n) k (suc j) high = by (fragment l k)
-  where
-    rest : List (Option (List ℕ))
-    rest = fragments_from l n (k + 1)
-    by : (o : Option (List ℕ)) → said_at (bodies_saying LEVEL_1 (o ∷ rest)) (suc j) ≡ None
-    by None = not_there l n (k + 1) (suc j) (omega (arith, high))
-    by (Some tlvs) = not_there l n (k + 1) j (omega (arith, high))
+not_there l (suc n) k j high = no_more l n k j (fragment l k) (λ i past. not_there l n (k + 1) i past) high
 
 pub body_at_is : (v : BridgeView) (number : ℕ) → number < own_numbers → body_at v number ≡ in_lsp (fragment (local_of v) number)
 unfolding bodies_of
