@@ -3,7 +3,6 @@ use Rattle.std.proofs.Common.{◌≡◌, inl, inr, ℕ, zero, suc, ◌+◌, ◌�
 use Rattle.std.specs.Prelude.{slice_get}
 use Rattle.std.specs.Option.{option_map, option_and_then}
 use Rattle.std.proofs.lemmas.Bool.{cases_lt}
-use Rattle.std.proofs.lemmas.Option.{slice_get-map}
 use Rattle.spb_tlvs.specs.declared.neighbours.Neighbour.{Neighbour}
 use Rattle.lsdb.specs.Database.{Lsps}
 use Rattle.flooding.specs.Own.{own_numbers}
@@ -11,7 +10,9 @@ use Rattle.flooding.specs.Hearing.{Holding}
 use Rattle.flooding.proofs.OwnNumbers.{some_number}
 use Rattle.spb_content.specs.declared.local.Local.{Local}
 use Rattle.spb_content.specs.Local.{content_bytes}
-use Rattle.spb_content.specs.Fragments.{part_of, fragment, fragments_from}
+use Rattle.spb_content.specs.Fragments.{part_of, fragment, fragments_from, bodies_saying}
+use Rattle.spb_content.proofs.Fitting.{none_said}
+use Rattle.spb_content.proofs.Parts.{fragments_are_first}
 use Rattle.spb_types.specs.declared.level.TheConstants.{LEVEL_1}
 use Rattle.bridge_api.specs.declared.port.BridgePort.{BridgePort}
 use Rattle.bridge_api.specs.declared.drops.Drops.{Drops}
@@ -20,33 +21,48 @@ use Rattle.bridge_api.specs.Own.{neighbours_from, member_of, local_of, bodies_of
 
 -- ---- the body of a number is its fragment behind the flags
 
-there : (l : Local) (n k j : ℕ) → j < n → slice_get (fragments_from l n k) j ≡ Some (fragment l (k + j))
-there l zero k j low = absurd (omega (arith, low))
-there l (suc n) k zero low = let same : k ≡ k + zero = omega arith in ap (λ i. Some (fragment l i)) same
-there l (suc n) k (suc j) low = let same : k + 1 + j ≡ k + suc j = omega arith in there l n (k + 1) j (omega (arith, low)) ∙ ap (λ i. Some (fragment l i)) same
-
-not_there : (l : Local) (n k j : ℕ) → n ≤ j → slice_get (fragments_from l n k) j ≡ None
-not_there l zero k j high = refl
-not_there l (suc n) k zero high = absurd (omega (arith, high))
-not_there l (suc n) k (suc j) high = not_there l n (k + 1) j (omega (arith, high))
-
 -- a fragment behind the flags
 abbrev pub in_lsp : Option (List ℕ) → Option (List ℕ)
 in_lsp fragment = option_map (λ tlvs. LEVEL_1 ∷ tlvs) fragment
 
+-- the body at a place
+abbrev said_at : List (Option (List ℕ)) → ℕ → Option (List ℕ)
+said_at bodies j = option_and_then (λ (b : Option (List ℕ)). b) (slice_get bodies j)
+
+-- those of the fragments from number k on, where those from number k + 1 on are so
+from : (l : Local) (n k j : ℕ) (o : Option (List ℕ)) → fragment l k ≡ o
+    → ((i : ℕ) → i < n → said_at (bodies_saying LEVEL_1 (fragments_from l n (k + 1))) i ≡ in_lsp (fragment l (k + 1 + i)))
+    → j < suc n → said_at (bodies_saying LEVEL_1 (o ∷ fragments_from l n (k + 1))) j ≡ in_lsp (fragment l (k + j))
+from l n k j None is rest low =
+    ap (λ bs. said_at bs j) (none_said l LEVEL_1 k n (k + 1) (omega arith) is)
+    ∙ ap in_lsp (sym (fragments_are_first l k (k + j) (omega arith) is))
+from l n k zero (Some tlvs) is rest low = let same : k ≡ k + zero = omega arith in ap in_lsp (sym is ∙ ap (λ i. fragment l i) same)
+from l n k (suc j) (Some tlvs) is rest low =
+    let same : k + 1 + j ≡ k + suc j = omega arith in rest j (omega (arith, low)) ∙ ap (λ i. in_lsp (fragment l i)) same
+
+there : (l : Local) (n k j : ℕ) → j < n → said_at (bodies_saying LEVEL_1 (fragments_from l n k)) j ≡ in_lsp (fragment l (k + j))
+there l zero k j low = absurd (omega (arith, low))
+there l (suc n) k j low = from l n k j (fragment l k) refl (λ i below. there l n (k + 1) i below) low
+
+no_more : (l : Local) (n k j : ℕ) (o : Option (List ℕ)) → ((i : ℕ) → n ≤ i → said_at (bodies_saying LEVEL_1 (fragments_from l n (k + 1))) i ≡ None)
+    → suc n ≤ j → said_at (bodies_saying LEVEL_1 (o ∷ fragments_from l n (k + 1))) j ≡ None
+no_more l n k j None rest high = rest j (omega (arith, high))
+no_more l n k zero (Some tlvs) rest high = absurd (omega (arith, high))
+no_more l n k (suc j) (Some tlvs) rest high = rest j (omega (arith, high))
+
+not_there : (l : Local) (n k j : ℕ) → n ≤ j → said_at (bodies_saying LEVEL_1 (fragments_from l n k)) j ≡ None
+not_there l zero k j high = refl
+not_there l (suc n) k j high = no_more l n k j (fragment l k) (λ i past. not_there l n (k + 1) i past) high
+
 pub body_at_is : (v : BridgeView) (number : ℕ) → number < own_numbers → body_at v number ≡ in_lsp (fragment (local_of v) number)
 unfolding bodies_of
 body_at_is v number below =
-    let fragments : List (Option (List ℕ)) = fragments_from (local_of v) own_numbers 0 in
     let same : 0 + number ≡ number = omega arith in
-    ap (option_and_then (λ (b : Option (List ℕ)). b)) (slice_get-map in_lsp fragments number ∙ ap (option_map in_lsp) (there (local_of v) own_numbers 0 number below))
-    ∙ ap (λ i. in_lsp (fragment (local_of v) i)) same
+    there (local_of v) own_numbers 0 number below ∙ ap (λ i. in_lsp (fragment (local_of v) i)) same
 
 pub no_body : (v : BridgeView) (number : ℕ) → own_numbers ≤ number → body_at v number ≡ None
 unfolding bodies_of
-no_body v number past =
-    let fragments : List (Option (List ℕ)) = fragments_from (local_of v) own_numbers 0 in
-    ap (option_and_then (λ (b : Option (List ℕ)). b)) (slice_get-map in_lsp fragments number ∙ ap (option_map in_lsp) (not_there (local_of v) own_numbers 0 number past))
+no_body v number past = not_there (local_of v) own_numbers 0 number past
 
 -- a body that the bridge has for a number
 pub record IsFragment (v : BridgeView) (number : ℕ) (body : List ℕ) : Type 0 where
@@ -89,7 +105,7 @@ counted_bodies drops v = refl
 -- what it says with these neighbours
 abbrev pub bodies_with : BridgeView → List Neighbour → List (Option (List ℕ))
 bodies_with v list =
-    map in_lsp (fragments_from (record { config = record { id = v.id; source = v.source; vids = v.vids }; neighbours = list; attached = map (member_of v.id.system) v.attached }) own_numbers 0)
+    bodies_saying LEVEL_1 (fragments_from (record { config = record { id = v.id; source = v.source; vids = v.vids }; neighbours = list; attached = map (member_of v.id.system) v.attached }) own_numbers 0)
 
 pub bodies_say : (v : BridgeView) → bodies_of v ≡ bodies_with v (neighbours_from 1 v.ports)
 unfolding bodies_of

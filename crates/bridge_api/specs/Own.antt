@@ -1,6 +1,5 @@
 -- What a bridge says of itself, and its own LSPs (RFC 6329, 13 to 16; ISO/IEC 10589, 7.3.7).
 use Rattle.std.specs.Prelude.{◌≡◌, ℕ, ◌+◌, ◌≤◌, ◌<◌, List, [], ◌∷◌, map, Option, if◌then◌else◌}
-use Rattle.std.specs.Option.{option_map}
 use Rattle.std.specs.FinMap.{get}
 use Rattle.spb_types.specs.declared.address.SystemId.{SystemId}
 use Rattle.spb_types.specs.declared.graph.Member.{Member}
@@ -16,7 +15,7 @@ pub use Rattle.flooding.specs.Settling.{Lasts, IsAlive}
 use Rattle.flooding.specs.Settling.{AreCurrent, settled}
 use Rattle.spb_content.specs.declared.local.Local.{Local}
 use Rattle.spb_content.specs.Content.{content_in, neighbours_in}
-use Rattle.spb_content.specs.Fragments.{fragments_from}
+use Rattle.spb_content.specs.Fragments.{fragments_from, bodies_saying}
 use Rattle.spb_content.specs.Graph.{HasPorts}
 use Rattle.bridge_api.specs.declared.port.BridgePort.{BridgePort}
 use Rattle.bridge_api.specs.View.{BridgeView, is_port_up, up_ports}
@@ -46,10 +45,10 @@ local_of v = record {
   attached = map (member_of v.id.system) v.attached;
 }
 
--- the bodies of its own LSPs, from number 0 on: the flags octet of level 1, and then the TLVs of the fragment, where it
--- exists (ISO/IEC 10589, 9.8)
+-- the bodies of its own LSPs, from number 0 on: the flags octet of level 1, and then the TLVs of the fragment, for each
+-- that exists (ISO/IEC 10589, 9.8). Where a fragment doesn't exist, none behind it does
 unfoldable pub bodies_of : BridgeView → List (Option (List ℕ))
-bodies_of v = map (option_map (λ tlvs. LEVEL_1 ∷ tlvs)) (fragments_from (local_of v) own_numbers 0)
+bodies_of v = bodies_saying LEVEL_1 (fragments_from (local_of v) own_numbers 0)
 
 -- ---- its own LSPs
 

@@ -1,5 +1,4 @@
 pub mod Loops
-pub mod Renewing
 pub mod Picked
 pub mod Wire
 pub mod Following

@@ -6,6 +6,7 @@ use Rattle.std.proofs.lemmas.Bool.{eqb-true}
 use Rattle.spb_types.specs.declared.address.SystemId.{SystemId}
 use Rattle.spb_types.specs.declared.graph.Member.{Member}
 use Rattle.spb_types.specs.declared.service.Attachment.{Attachment}
+use Rattle.spb_types.specs.declared.level.TheConstants.{LEVEL_1}
 use Rattle.customer_learning.specs.Known.{Addresses}
 use Rattle.forwarding.specs.Ports.{is_at_other_port, is_in, is_served, without_customer_port}
 use Rattle.forwarding.specs.Detaching.{after_detach}
@@ -13,7 +14,7 @@ use Rattle.flooding.specs.declared.own.Own.{Own}
 use Rattle.flooding.specs.Own.{own_numbers}
 use Rattle.flooding.specs.Settling.{AreCurrent}
 use Rattle.spb_content.specs.declared.local.Local.{Local}
-use Rattle.spb_content.specs.Fragments.{unless_none, fragment, fragments_from}
+use Rattle.spb_content.specs.Fragments.{unless_none, fragment, fragments_from, bodies_saying}
 use Rattle.spb_content.specs.Local.{IsLocal, IsAttached, content_bytes, service_tlvs}
 use Rattle.spb_content.specs.Members.{pair_of, pairs_of, member_for, merged}
 use Rattle.spb_content.proofs.Ascended.{ascends_once}
@@ -26,7 +27,6 @@ use Rattle.bridge_api.specs.Services.{with_attached, with_port_forgotten}
 use Rattle.bridge_api.specs.Step.{Input, attach, detach}
 use Rattle.bridge_api.specs.Laws.{HasConfig, IsInput, attached_after}
 use Rattle.bridge_api.proofs.Attached.{config_after, learned_after}
-use Rattle.bridge_api.proofs.Bodies.{in_lsp}
 use Rattle.bridge_api.proofs.Changes.{attached_to, with_attached_is}
 use Rattle.bridge_api.proofs.OwnLspSteps.{saying_settles}
 use Rattle.bridge_api.proofs.Saying.{is_local}
@@ -152,7 +152,7 @@ same_bodies v attached learned before after within beyond =
     let s : SystemId = v.id.system in
     let services : merged s (map (member_of s) attached) ≡ merged s (map (member_of s) v.attached) =
     same_services s (map (member_of s) attached) (map (member_of s) v.attached) after.attached before.attached (members_within s attached v.attached within) (members_within s v.attached attached beyond) in
-    ap (λ (fragments : List (Option (List ℕ))). map in_lsp fragments) (same_fragments (local_of v) (map (member_of s) attached) (map (member_of s) v.attached) services own_numbers 0)
+    ap (λ (fragments : List (Option (List ℕ))). bodies_saying LEVEL_1 fragments) (same_fragments (local_of v) (map (member_of s) attached) (map (member_of s) v.attached) services own_numbers 0)
 
 says_still : (m n : Machine) (attached : List Attachment) (learned other : Addresses) → IsReady m → HasConfig (attached_to attached (with_learned other (view_of m))) → n ≡ machine_with m attached learned
     → ((a : Attachment) → Has a attached → IsCovered m.id.system a m.tenant.attached) → ((a : Attachment) → Has a m.tenant.attached → IsCovered m.id.system a attached)

@@ -1,9 +1,7 @@
 //! What a configured bridge keeps, and its own LSPs.
-ghost use Rattle.std.specs.Prelude.{ℕ, ◌≡◌, ◌≤◌, ◌<◌, ◌∷◌, true, false, length, map, IfOk, OnOk};
-ghost use Rattle.std.specs.Option.{option_map};
+ghost use Rattle.std.specs.Prelude.{ℕ, ◌≡◌, ◌≤◌, ◌<◌, true, false, length, IfOk, OnOk};
 ghost use Rattle.spb_content.specs.Local.{IsLocal};
 ghost use Rattle.flooding.specs.Own.{own_numbers};
-ghost use Rattle.spb_types.specs.declared.level.TheConstants.{LEVEL_1};
 ghost use Rattle.flooding.specs.Room.{most_others, others};
 ghost use Rattle.flooding.specs.Placing.{holding};
 ghost use Rattle.flooding.specs.Settling.{is_said};
@@ -22,7 +20,7 @@ use flooding::{OWN_NUMBERS, Own, begin_all, keep_fresh, settle};
 use forwarding::Tenant;
 use lsdb::Database;
 use shared_frames::Frame;
-use spb_content::{BridgeConfigFacts, Local, fragments_of};
+use spb_content::{BridgeConfigFacts, Local, bodies_of};
 use spb_types::{BridgeId, LEVEL_1, Mac, NoMemory, PortSet, Seq, SourceId, SystemId, VidPlan};
 use std::alloc::Global;
 
@@ -165,8 +163,7 @@ impl Machine {
         ensures { IfOk result (λ bodies. bodies.items ≡ api.bodies_of (view_of self.now)) }
     {
         let local = self.local()?;
-        let fragments = fragments_of(self.alloc, &local, OWN_NUMBERS)?;
-        bodies_of(self.alloc, fragments.as_slice())
+        bodies_of(self.alloc, &local, OWN_NUMBERS, LEVEL_1)
     }
 
     /// Makes the bodies of the own LSPs anew, after an Up port, its neighbour, its metric or what is attached changed.
@@ -235,29 +232,4 @@ impl Machine {
     {
         keep_fresh(self.alloc, &mut self.db, self.up, &mut self.own, renewed)
     }
-}
-
-/// The bodies of LSPs that say these fragments.
-fn bodies_of(alloc: Global, fragments: &[Option<Vec<u8>>]) -> Result<Vec<Option<Seq<u8>>>, NoMemory>
-    ensures { IfOk result (λ bodies. bodies.items
-        ≡ map (option_map (λ tlvs. LEVEL_1 ∷ tlvs)) (map (option_map (λ v. v.items)) fragments.now)) }
-{
-    let mut bodies = Vec::with_capacity(alloc, fragments.len())?;
-    'put: for place in 0..fragments.len() {
-        bodies.push(body_of(alloc, &fragments[place])?)?;
-    }
-    Ok(bodies)
-}
-
-/// The body of an LSP that says a fragment, if there is one: the flags octet and then its TLVs.
-fn body_of(alloc: Global, fragment: &Option<Vec<u8>>) -> Result<Option<Seq<u8>>, NoMemory>
-    ensures { IfOk result (λ body. body ≡ option_map (λ tlvs. LEVEL_1 ∷ tlvs) (option_map (λ v. v.items) fragment.now)) }
-{
-    let Some(tlvs) = fragment else {
-        return Ok(None);
-    };
-    let mut body = Vec::with_capacity(alloc, 1 + tlvs.len())?;
-    body.push(LEVEL_1)?;
-    body.extend_from_slice(tlvs.as_slice())?;
-    Ok(Some(Seq::from_vec(body)))
 }

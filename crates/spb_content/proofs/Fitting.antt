@@ -1,6 +1,6 @@
 -- Fragments fit into their LSPs, and at most 60 services are in one.
 use Rattle.std.proofs.Common.{◌≡◌, ◌≢◌, inl, inr, ℕ, zero, suc, ◌+◌, ◌*◌, ◌-◌, ◌≤◌, ◌<◌, Bool, true, false, ltb, min, List, [], ◌∷◌, ◌++◌, length, take, drop, refl, sym, ap, subst, ◌∙◌, arith, append_assoc}
-use Rattle.std.specs.Prelude.{Option, Some, None}
+use Rattle.std.specs.Prelude.{Option, Some, None, option_map}
 use Rattle.std.proofs.lemmas.Bool.{ltb-true, ltb-false}
 use Rattle.std.proofs.lemmas.List.{append-nil, length-drop, take_min}
 use Rattle.isis_pdu.specs.Tlvs.{is_whole}
@@ -9,14 +9,14 @@ use Rattle.spb_types.specs.declared.limits.TheConstants.{MOST_PORTS}
 use Rattle.spb_tlvs.specs.Capability.{capability_value}
 use Rattle.spb_content.specs.declared.local.Local.{Local}
 use Rattle.spb_content.specs.Local.{service_tlvs, content_bytes, own_mac, trees_of, vids_in, IsLocal, IsPart}
-use Rattle.spb_content.specs.Fragments.{services_by, part_of, unless_none, fragment, fragments_from, AreToCut}
+use Rattle.spb_content.specs.Fragments.{services_by, part_of, unless_none, fragment, fragments_from, bodies_saying, AreToCut}
 use Rattle.spb_content.specs.Laws.{HasFields, AreConfigured, Fits, FragmentsFit, FewAreOne}
 use Rattle.spb_content.proofs.Again.{services_at}
 use Rattle.spb_content.proofs.AnyOrder.{ArePaired, listing, listing_same}
 use Rattle.spb_content.proofs.Groups.{same_is_written}
 use Rattle.spb_content.proofs.Lengths.{whole_none, whole_several, content_len, own_fits}
 use Rattle.spb_content.proofs.Pairs.{merged_paired, paired_merged, services_are_few}
-use Rattle.spb_content.proofs.Parts.{past, whole, is_part, some_ports, few_are_part, part_fields, part_configured}
+use Rattle.spb_content.proofs.Parts.{past, whole, is_part, some_ports, few_are_part, part_fields, part_configured, fragments_are_first}
 use Rattle.spb_content.proofs.Told.{service_fragment}
 
 -- ---- they fit
@@ -128,7 +128,7 @@ sliced start end n ms from to = at (ltb (length ms) n) refl
         let many : end - start ≡ min 60 (length (drop start ms)) = omega (arith, within, from, to, length-drop start ms) in
         ap (λ i. take i (drop start ms)) many ∙ (take_min 60 (drop start ms) ∙ ap (λ i. take 60 (drop i ms)) here)
 
--- ---- a fragment behind the others
+-- ---- bodies of fragments, one after another
 
 from_next : (l : Local) (n k : ℕ) → k < n → fragments_from l (n - k) k ≡ fragment l k ∷ fragments_from l (n - (k + 1)) (k + 1)
 from_next l n k less = ap (λ i. fragments_from l i k) (next (n - k) (n - (k + 1)) (omega (arith, less)))
@@ -136,9 +136,38 @@ from_next l n k less = ap (λ i. fragments_from l i k) (next (n - k) (n - (k + 1
     next : (a b : ℕ) → a ≡ b + 1 → a ≡ suc b
     next a b e = omega (arith, e)
 
-pub fragments_more : (l : Local) (n k : ℕ) (before after : List (Option (List ℕ))) (x : Option (List ℕ)) → k < n → after ≡ before ++ x ∷ [] → x ≡ fragment l k
-    → before ++ fragments_from l (n - k) k ≡ fragments_from l n 0 → after ++ fragments_from l (n - (k + 1)) (k + 1) ≡ fragments_from l n 0
-fragments_more l n k before after x less pushed is so_far =
-    ap (λ fs. fs ++ fragments_from l (n - (k + 1)) (k + 1)) (pushed ∙ ap (λ f. before ++ f ∷ []) is)
-    ∙ (append_assoc before (fragment l k ∷ []) (fragments_from l (n - (k + 1)) (k + 1))
-    ∙ (ap (λ fs. before ++ fs) (sym (from_next l n k less)) ∙ so_far))
+-- where one doesn't exist, none from it on is said
+pub none_said : (l : Local) (flags k n m : ℕ) → k ≤ m → fragment l k ≡ None → bodies_saying flags (fragments_from l n m) ≡ []
+none_said l flags k zero m low none = refl
+none_said l flags k (suc n) m low none =
+    ap (λ (f : Option (List ℕ)). bodies_saying flags (f ∷ fragments_from l n (m + 1))) (fragments_are_first l k m low none)
+    ∙ none_said l flags k n (m + 1) (omega (arith, low)) none
+
+no_tlvs : (front : List ℕ) (o : Option (List ℕ)) → None ≡ option_map (λ tlvs. front ++ tlvs) o → o ≡ None
+no_tlvs front None is = refl
+no_tlvs front (Some tlvs) is = absurd cc
+
+-- the bodies so far are all, where the next fragment doesn't exist
+pub bodies_end : (l : Local) (flags n k : ℕ) (bodies : List (Option (List ℕ))) → None ≡ option_map (λ tlvs. (flags ∷ []) ++ tlvs) (fragment l k)
+    → bodies ++ bodies_saying flags (fragments_from l (n - k) k) ≡ bodies_saying flags (fragments_from l n 0) → bodies ≡ bodies_saying flags (fragments_from l n 0)
+bodies_end l flags n k bodies none so_far =
+    sym (append-nil bodies)
+    ∙ (ap (λ bs. bodies ++ bs) (sym (none_said l flags k (n - k) k (omega arith) (no_tlvs (flags ∷ []) (fragment l k) none))) ∙ so_far)
+
+is_said : (flags : ℕ) (body : List ℕ) (o : Option (List ℕ)) → Some body ≡ option_map (λ tlvs. (flags ∷ []) ++ tlvs) o → Some body ∷ [] ≡ bodies_saying flags (o ∷ [])
+is_said flags body None is = absurd cc
+is_said flags body (Some tlvs) is = ap (λ b. b ∷ []) is
+
+said_first : (flags : ℕ) (o : Option (List ℕ)) (fs : List (Option (List ℕ))) → bodies_saying flags (o ∷ fs) ≡ bodies_saying flags (o ∷ []) ++ bodies_saying flags fs
+said_first flags None fs = refl
+said_first flags (Some tlvs) fs = refl
+
+-- and go on with the next, where it does
+pub bodies_more : (l : Local) (flags n k : ℕ) (before after : List (Option (List ℕ))) (body : List ℕ) → k < n → after ≡ before ++ Some body ∷ [] → Some body ≡ option_map (λ tlvs. (flags ∷ []) ++ tlvs) (fragment l k)
+    → before ++ bodies_saying flags (fragments_from l (n - k) k) ≡ bodies_saying flags (fragments_from l n 0)
+    → after ++ bodies_saying flags (fragments_from l (n - (k + 1)) (k + 1)) ≡ bodies_saying flags (fragments_from l n 0)
+bodies_more l flags n k before after body less pushed is so_far =
+    let rest : List (Option (List ℕ)) = fragments_from l (n - (k + 1)) (k + 1) in
+    ap (λ bs. bs ++ bodies_saying flags rest) (pushed ∙ ap (λ bs. before ++ bs) (is_said flags body (fragment l k) is))
+    ∙ (append_assoc before (bodies_saying flags (fragment l k ∷ [])) (bodies_saying flags rest)
+    ∙ (ap (λ bs. before ++ bs) (sym (said_first flags (fragment l k) rest) ∙ ap (bodies_saying flags) (sym (from_next l n k less))) ∙ so_far))

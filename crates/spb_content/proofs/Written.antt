@@ -113,3 +113,9 @@ pub all_take : {A : Type 0} (P : A → Type 0) (k : ℕ) (xs : List A) → AllBy
 all_take P zero xs all = tt
 all_take P (suc k) [] all = tt
 all_take P (suc k) (x ∷ xs) all = (all.0, all_take P k xs all.1)
+
+-- four texts behind one, one after another
+pub put_all : (old a b c d one two three all : List ℕ) → one ≡ old ++ a → two ≡ one ++ b → three ≡ two ++ c → all ≡ three ++ d → all ≡ old ++ (((a ++ b) ++ c) ++ d)
+put_all old a b c d one two three all first second third fourth =
+    fourth ∙ ap (λ xs. xs ++ d) (third ∙ ap (λ xs. xs ++ c) (second ∙ ap (λ xs. xs ++ b) first ∙ append_assoc old a b) ∙ append_assoc old (a ++ b) c)
+    ∙ append_assoc old ((a ++ b) ++ c) d

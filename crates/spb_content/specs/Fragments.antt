@@ -1,6 +1,6 @@
 -- What a bridge says of itself in more than one LSP: fragment k is what its LSP of number k says.
-use Rattle.std.specs.Prelude.{◌≡◌, ℕ, zero, suc, ◌+◌, ◌*◌, ◌≤◌, ◌⊎◌, List, [], ◌∷◌, length, take, drop, flat_map, Option, Some, None}
-use Rattle.std.specs.Option.{unwrap_or}
+use Rattle.std.specs.Prelude.{◌≡◌, ℕ, zero, suc, ◌+◌, ◌*◌, ◌≤◌, ◌⊎◌, List, [], ◌∷◌, length, take, drop, map, flat_map, Option, Some, None}
+use Rattle.std.specs.Option.{unwrap_or, option_to_list}
 use Rattle.spb_types.specs.declared.graph.Member.{Member}
 use Rattle.spb_content.specs.declared.local.Local.{Local}
 use Rattle.spb_content.specs.Local.{content_bytes, service_tlvs}
@@ -33,6 +33,14 @@ fragments_from l (suc n) k = fragment l k ∷ fragments_from l n (k + 1)
 -- the TLVs of those that exist, put together
 abbrev pub tlvs_together : List (Option (List ℕ)) → List ℕ
 tlvs_together fragments = flat_map (λ f. unwrap_or f []) fragments
+
+-- the TLVs of those that exist, in order
+abbrev pub existing : List (Option (List ℕ)) → List (List ℕ)
+existing fragments = flat_map option_to_list fragments
+
+-- the bodies of LSPs that say those that exist, in order: each the flags octet and then the TLVs of its fragment
+abbrev pub bodies_saying : ℕ → List (Option (List ℕ)) → List (Option (List ℕ))
+bodies_saying flags fragments = map (λ tlvs. Some (flags ∷ tlvs)) (existing fragments)
 
 -- what is cut into fragments: the services; or the ports as they are, where one fragment takes them all
 abbrev pub AreToCut : Local → List Member → Type 0

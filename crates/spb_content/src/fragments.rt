@@ -1,17 +1,20 @@
 //! What a bridge says of itself, cut into fragments: what its LSP of each number says.
-ghost use Rattle.std.specs.Prelude.{◌≡◌, ◌*◌, length, map, take, drop, IfOk, option_map};
+ghost use Rattle.std.specs.Prelude.{◌≡◌, ◌*◌, ◌++◌, length, take, drop, IfOk, option_map};
 ghost use Rattle.spb_content.specs.Local.{IsLocal};
 ghost use Rattle.spb_content.specs.Fragments as spec;
-ghost use Rattle.spb_content.specs.Fragments.{AreToCut, fragment, fragments_from};
+ghost use Rattle.spb_content.specs.Fragments.{AreToCut, fragment, fragments_from, bodies_saying};
 
 use crate::Local;
-use crate::local::{content_with, put_services};
+use crate::local::{put_content, put_services};
 use crate::merging::merge;
-use spb_types::{Member, NoMemory};
+use spb_types::{Member, NoMemory, Seq};
 use std::alloc::Global;
 
 /// How many services a fragment has at most: as many as one TLV has room for.
 const SERVICES: usize = 60;
+
+/// Room for what most bridges say, so that it need not move while it is written.
+const USUAL_LENGTH: usize = 256;
 
 /// The TLVs of fragment `number`, which the own LSP of that number says (RFC 6329, 13 to 16). Number 0 has, in this
 /// order, the area addresses; the protocols supported; the neighbours, 13 in a TLV 22, and none without a neighbour; a
@@ -30,28 +33,29 @@ pub fn content_of(alloc: Global, local: &Local, number: u8) -> Result<Option<Vec
     ensures { IfOk result (λ tlvs. option_map (λ v. v.items) tlvs ≡ fragment local.now number) }
 {
     if local.attached.len() <= SERVICES {
-        return fragment_at(alloc, local, local.attached.as_slice(), number);
+        return fragment_at(alloc, local, local.attached.as_slice(), number, &[]);
     }
     let services = services_of(alloc, local)?;
-    fragment_at(alloc, local, services.as_slice(), number)
+    fragment_at(alloc, local, services.as_slice(), number, &[])
 }
 
-/// The TLVs of the fragments with the numbers below `numbers`, each as [`content_of`] gives it. The services are sorted
-/// once.
-pub fn fragments_of(
+/// The bodies of the LSPs with the numbers below `numbers` that have a fragment, from number 0 on: each the flags octet
+/// and then the TLVs, as [`content_of`] gives them. No number behind one without a fragment has one. The services are
+/// sorted once.
+pub fn bodies_of(
     alloc: Global,
     local: &Local,
     numbers: u8,
-) -> Result<Vec<Option<Vec<u8>>>, NoMemory>
+    flags: u8,
+) -> Result<Vec<Option<Seq<u8>>>, NoMemory>
     requires { IsLocal local.now }
-    ensures { IfOk result (λ fragments. map (option_map (λ v. v.items)) fragments.items
-        ≡ fragments_from local.now numbers 0) }
+    ensures { IfOk result (λ bodies. bodies.items ≡ bodies_saying flags (fragments_from local.now numbers 0)) }
 {
     if local.attached.len() <= SERVICES {
-        return fragments_below(alloc, local, local.attached.as_slice(), numbers);
+        return bodies_below(alloc, local, local.attached.as_slice(), numbers, flags);
     }
     let services = services_of(alloc, local)?;
-    fragments_below(alloc, local, services.as_slice(), numbers)
+    bodies_below(alloc, local, services.as_slice(), numbers, flags)
 }
 
 /// The services of a bridge, each once, ascending by base VID and then by I-SID.
@@ -62,46 +66,62 @@ fn services_of(alloc: Global, local: &Local) -> Result<Vec<Member>, NoMemory>
     merge(alloc, local.config.id.system, local.attached.as_slice())
 }
 
-/// The fragments with the numbers below this one.
-fn fragments_below(
+/// The bodies of the LSPs with the numbers below this one, up to the first without a fragment.
+fn bodies_below(
     alloc: Global,
     local: &Local,
     services: &[Member],
     numbers: u8,
-) -> Result<Vec<Option<Vec<u8>>>, NoMemory>
+    flags: u8,
+) -> Result<Vec<Option<Seq<u8>>>, NoMemory>
     requires local { IsLocal local.now }
     requires services { AreToCut local.now services.now }
-    ensures { IfOk result (λ fragments. map (option_map (λ v. v.items)) fragments.items
-        ≡ fragments_from local.now numbers 0) }
+    ensures { IfOk result (λ bodies. bodies.items ≡ bodies_saying flags (fragments_from local.now numbers 0)) }
 {
-    let mut fragments = Vec::new(alloc);
+    let mut bodies = Vec::with_capacity(alloc, 1 + services.len() / SERVICES)?;
     for number in 0..numbers {
-        fragments.push(fragment_at(alloc, local, services, number)?)?;
+        let Some(body) = fragment_at(alloc, local, services, number, &[flags])? else {
+            return Ok(bodies);
+        };
+        bodies.push(Some(Seq::from_vec(body)))?;
     }
-    Ok(fragments)
+    Ok(bodies)
 }
 
-/// One fragment.
+/// One fragment, behind these octets.
 fn fragment_at(
     alloc: Global,
     local: &Local,
     services: &[Member],
     number: u8,
+    front: &[u8],
 ) -> Result<Option<Vec<u8>>, NoMemory>
     requires local { IsLocal local.now }
     requires services { AreToCut local.now services.now }
-    ensures { IfOk result (λ tlvs. option_map (λ v. v.items) tlvs ≡ fragment local.now number) }
+    ensures { IfOk result (λ bytes. option_map (λ v. v.items) bytes
+        ≡ option_map (λ tlvs. front.now ++ tlvs) (fragment local.now number)) }
 {
     let part = part_of(services, number);
     if number == 0 {
-        return Ok(Some(content_with(alloc, local, part)?));
+        let mut out = begun_with(alloc, front)?;
+        put_content(alloc, &mut out, local, part)?;
+        return Ok(Some(out));
     }
     if part.is_empty() {
         return Ok(None);
     }
-    let mut out = Vec::new(alloc);
+    let mut out = begun_with(alloc, front)?;
     put_services(alloc, &mut out, local, part)?;
     Ok(Some(out))
+}
+
+/// These octets, with room for what most bridges say behind them.
+fn begun_with(alloc: Global, front: &[u8]) -> Result<Vec<u8>, NoMemory>
+    ensures { IfOk result (λ out. out.items ≡ front.now) }
+{
+    let mut out = Vec::with_capacity(alloc, USUAL_LENGTH)?;
+    out.extend_from_slice(front)?;
+    Ok(out)
 }
 
 /// The services with the places of a fragment.

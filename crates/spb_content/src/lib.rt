@@ -1,11 +1,11 @@
 //! What a bridge says of itself in its LSPs, and the graph that the LSPs of a backbone make (RFC 6329, 13 to 16).
 //!
-//! [`content_of`] writes the TLVs of the own LSP of a number, a fragment of what the bridge says, and [`fragments_of`]
-//! those of the first numbers. [`read_content`] reads the TLVs of any LSP, and [`said_graph_of`] makes the graph of what
+//! [`content_of`] writes the TLVs of the own LSP of a number, a fragment of what the bridge says, and [`bodies_of`] the
+//! bodies of all that exist. [`read_content`] reads the TLVs of any LSP, and [`said_graph_of`] makes the graph of what
 //! the systems of a backbone say; [`graph_of`] makes the part of it that a bridge reaches.
 //!
 //! Writing and reading take time in proportion to the bytes. Where more than 60 ports are attached, `content_of` and
-//! `fragments_of` first sort the m ports once, in O(m log m). Before a fragment is written, its VIDs and I-SIDs are
+//! `bodies_of` first sort the m ports once, in O(m log m). Before a fragment is written, its VIDs and I-SIDs are
 //! sorted, and its n ports are gone over once for each of its v base VIDs: with t trees, which number 0 alone has, that
 //! takes O(n (v + log n) + t log t), where n is at most 60.
 //!
@@ -15,7 +15,7 @@
 #![tactic(auto)]
 
 pub use content::{Content, Inst, read_content};
-pub use fragments::{content_of, fragments_of};
+pub use fragments::{bodies_of, content_of};
 pub use graph::{graph_of, said_graph_of};
 pub use laws::{
     content_again, content_fits, few_are_one, fragments_are_first, fragments_are_read,
