@@ -75,8 +75,8 @@ pub record HasConfig (v : BridgeView) : Type 0 where
   pub few_isids : length (different (map (λ a. a.isid.value) v.attached)) ≤ MOST_ISIDS
 
 -- the database: each LSP that is held can be written, and is read again as what is held; what an SNP says of it can be
--- written; its body is octets; flags stand at Up ports alone; number 0 of the bridge's own is held, and no own number as
--- absent; and of the ids that aren't own numbers no more are held than have room
+-- written; its body is octets; flags stand at Up ports alone; number 0 of the bridge's own is held, and no own number
+-- as absent; and of the ids that aren't own numbers no more are held than have room
 pub record HasDatabase (v : BridgeView) : Type 0 where
   pub sendable : AreSendable v.database
   pub sized : AreSized v.database

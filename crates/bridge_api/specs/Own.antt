@@ -71,8 +71,8 @@ abbrev pub own_entry : BridgeView → ℕ → Option Entry
 own_entry v number = get v.database (own_number v.id.system number)
 
 -- unless its sequence numbers are spent, each own LSP of a bridge is alive and says what the bridge has to say in it,
--- or isn't live where it has nothing to say. And whatever became of them, number 0 lists each neighbour at a port of its
--- own, and the others list none
+-- or isn't live where it has nothing to say. And whatever became of them, number 0 lists each neighbour at a port of
+-- its own, and the others list none
 pub record IsOwnLspCurrent (v : BridgeView) : Type 0 where
   pub current : AreCurrent (holding_of v)
   pub text : HasPorts (content_in (tlvs_of_body (body_in (own_entry v 0))))

@@ -204,8 +204,8 @@ AloneStaysAlone = (v : BridgeView) (k : ℕ) → IsAlone v
     → IsAlone (seconds k v) × ((number : ℕ) → SaysTheSame k number v)
 
 -- so a bridge just configured, in its first life, and left to itself originates every 900 seconds: after 900 j and
--- fewer than 900 seconds more, each own LSP in which it has something to say is at number j + 1, and what is left of its
--- lifetime is 1,200 less those seconds
+-- fewer than 900 seconds more, each own LSP in which it has something to say is at number j + 1, and what is left of
+-- its lifetime is 1,200 less those seconds
 pub record IsAtNumber (number seq left : ℕ) (v : BridgeView) : Type 0 where
   pub at : own_sequence_number v number ≡ seq
   pub lifetime : lifetime_in (own_entry v number) ≡ left

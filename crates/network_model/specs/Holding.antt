@@ -145,8 +145,8 @@ IsOutOfRange w (command.Round n) = ¬ ((1 ≤ n) × (n ≤ MOST_ROUNDS))
 IsOutOfRange w (command.Drain n) = ¬ ((1 ≤ n) × (n ≤ MOST_DELIVERIES))
 IsOutOfRange w _ = ⊥
 
--- 7: there would be more than 16 base VIDs, 96 bridges, 400 links, 4,096 services, 960 I-SIDs at a bridge, 20,000 rounds
--- or 100,000,000 deliveries
+-- 7: there would be more than 16 base VIDs, 96 bridges, 400 links, 4,096 services, 960 I-SIDs at a bridge, 20,000
+-- rounds or 100,000,000 deliveries
 abbrev pub IsTooMany : State → Command → Type 0
 IsTooMany s (command.Vid vid ect) = MOST_VIDS ≤ length s.world.vids
 IsTooMany s (command.Bridge name priority system source ports) = MOST_BRIDGES ≤ length s.world.bridges
