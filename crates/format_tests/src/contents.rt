@@ -7,7 +7,7 @@ ghost use Rattle.spb_content.specs.Local.{IsLocal};
 
 use crate::fixtures::{are_bytes, are_equal, hex, system};
 use spb_content::{
-    BridgeConfigFacts, Content, Inst, Local, content_of, fragments_of, graph_of, read_content,
+    BridgeConfigFacts, Content, Inst, Local, bodies_of, content_of, graph_of, read_content,
     said_graph_of,
 };
 use spb_tlvs::{Neighbour, Service, find_tlv, read_neighbours};
@@ -297,17 +297,18 @@ fn sixteen_vids_are_in_one_fragment(rt: HostRuntime) {
 }
 
 #[test]
-fn fragments_are_listed_by_number(rt: HostRuntime) {
+fn bodies_are_fragments_behind_their_flags(rt: HostRuntime) {
     let local = attached_at(rt.alloc(), 64, 16).expect(&rt, "out of memory");
-    let fragments = fragments_of(rt.alloc(), &local, 16).expect(&rt, "out of memory");
-    are_equal(&rt, &fragments.len(), &16);
-    let first = fragments[0].as_ref().expect(&rt, "no first fragment");
-    are_bytes(
-        &rt,
-        first.as_slice(),
-        hex(&rt, rt.alloc(), SIXTEEN).as_slice(),
-    );
-    assert!(rt; fragments.iter().skip(1).all(|fragment| fragment.is_none()));
+    let bodies = bodies_of(rt.alloc(), &local, 16, 0x01).expect(&rt, "out of memory");
+    are_equal(&rt, &bodies.len(), &1);
+    let first = bodies.as_slice().first().expect(&rt, "no body");
+    let body = first.as_ref().expect(&rt, "an empty place");
+    let mut expected = hex(&rt, rt.alloc(), "01");
+    let tlvs = hex(&rt, rt.alloc(), SIXTEEN);
+    expected
+        .extend_from_slice(tlvs.as_slice())
+        .expect(&rt, "out of memory");
+    are_bytes(&rt, body.as_slice(), expected.as_slice());
 }
 
 /// A cut SPB-Inst, and then three without trees: of another topology, with the priority 0x8000 and the source id 1, and
