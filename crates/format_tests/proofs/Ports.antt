@@ -46,5 +46,5 @@ can_be_attached l ms vids is some few each = record {
       let a = all_has (IsPort vids) m ms each h in
       let b = all_has (IsPort vids) n ms each i in
       a.2 ∙ (ap (λ (k : ℕ). 10 + k % vids) e ∙ sym b.2));
-  few_isids = few_isids vids ms each;
+  few_isids = omega (arith, few_isids vids ms each);
 }
