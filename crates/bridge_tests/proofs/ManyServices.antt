@@ -5,11 +5,13 @@ use Rattle.std.specs.List.{list_any, AllByRecursion}
 use Rattle.std.proofs.lemmas.List.{length-map}
 use Rattle.spb_types.specs.declared.service.Attachment.{Attachment}
 use Rattle.bridge_api.specs.View.{BridgeView}
-use Rattle.bridge_api.specs.Config.{ArePairwise, AgreesWith, IsAttachment, different, vids_of}
+use Rattle.bridge_api.specs.declared.config.BridgeConfig.{BridgeConfig}
+use Rattle.bridge_api.specs.Config.{ArePairwise, AgreesWith, IsAttachment, IsWhole, different, vids_of, port_without_carrier, bare, configured}
 use Rattle.bridge_api.specs.Services.{IsAttachedPort, CanAttach}
-use Rattle.bridge_api.specs.Step.{Input, attach, step}
+use Rattle.bridge_api.specs.Step.{Input, attach, carrier, step}
 use Rattle.bridge_api.specs.Laws.{attached_after}
 use Rattle.bridge_api.proofs.Certified.{steps_keep_bridge}
+use Rattle.bridge_api.proofs.Changes.{configured_is, with_lsps}
 use Rattle.bridge_tests.specs.Services.{service, services, IsServing, IsKept}
 
 -- ---- one more behind the others
@@ -42,8 +44,14 @@ few_different (n ∷ ns) = fewer_by (list_any (nat_eq n) ns) n (different ns) ns
 
 -- ---- the services
 
+next : (n : ℕ) → n + 1 ≡ suc n
+next n = omega arith
+
 pub one_more : (base count : ℕ) → services base (count + 1) ≡ services base count ++ service base (count + 1) ∷ []
-one_more base count = refl
+one_more base count = ap (services base) (next count)
+
+pub still_so_many : (base count : ℕ) (now new : List Attachment) → now ≡ services base count → new ≡ now ++ service base (count + 1) ∷ [] → new ≡ services base (count + 1)
+still_so_many base count now new so more = more ∙ (ap (λ (list : List Attachment). list ++ service base (count + 1) ∷ []) so ∙ sym (one_more base count))
 
 so_many : (base count : ℕ) → length (services base count) ≡ count
 so_many base zero = refl
@@ -84,22 +92,25 @@ few_isids base count few =
 pub can_attach : (count : ℕ) (v : BridgeView) → count < 960 → IsServing count v → CanAttach v (service 0 (count + 1))
 can_attach count v few is = record {
   attachment = subst (λ (vids : List ℕ). IsAttachment vids (service 0 (count + 1))) (sym is.vids) (is_service 0 (count + 1) (omega arith) (omega arith) (omega (arith, few)));
-  agrees = subst (λ (as : List Attachment). AllByRecursion (λ other. AgreesWith other (service 0 (count + 1))) as) (sym is.attached) (all_agree 0 count (count + 1) (omega arith));
-  few_isids = subst (λ (as : List Attachment). length (different (map (λ (a : Attachment). a.isid.value) (as ++ service 0 (count + 1) ∷ []))) ≤ 960) (sym is.attached) (few_isids 0 (count + 1) (omega (arith, few)));
+  agrees = subst (λ (list : List Attachment). AllByRecursion (λ other. AgreesWith other (service 0 (count + 1))) list) (sym is.attached) (all_agree 0 count (count + 1) (omega arith));
+  few_isids = subst (λ (list : List Attachment). length (different (map (λ (a : Attachment). a.isid.value) (list ++ service 0 (count + 1) ∷ []))) ≤ 960) (sym is.attached) (few_isids 0 (suc count) (omega (arith, few)));
 }
 
 last_attached_in : (count : ℕ) → 1 ≤ count → (a : Attachment) × Contains (services 0 count) a × (a.port ≡ count)
 last_attached_in zero some = absurd (omega (arith, some))
 last_attached_in (suc count) some =
-    (service 0 (count + 1), (length (services 0 count), omega (arith, one_longer (services 0 count) (service 0 (count + 1))), last_of (services 0 count) (service 0 (count + 1))), refl)
+    (service 0 (count + 1), (length (services 0 count), omega (arith, one_longer (services 0 count) (service 0 (count + 1))), last_of (services 0 count) (service 0 (count + 1))), next count)
 
 pub last_attached : (count : ℕ) (v : BridgeView) → 1 ≤ count → IsServing count v → IsAttachedPort v count
-last_attached count v some is = subst (λ (as : List Attachment). (a : Attachment) × Contains as a × (a.port ≡ count)) (sym is.attached) (last_attached_in count some)
+last_attached count v some is = subst (λ (list : List Attachment). (a : Attachment) × Contains list a × (a.port ≡ count)) (sym is.attached) (last_attached_in count some)
 
 pub kept_after : (input : Input) (v w : BridgeView) → attached_after input v.attached ≡ v.attached → w ≡ step input v → IsKept v w
 kept_after input v w same is =
     let bridge = steps_keep_bridge input v in
     subst (λ (u : BridgeView). IsKept v u) (sym is) (record { ports = bridge.ports; vids = bridge.vids; attached = bridge.attached ∙ same })
+
+pub still_serving : (count : ℕ) (v w : BridgeView) → IsServing count v → IsKept v w → IsServing count w
+still_serving count v w was kept = record { ports = kept.ports ∙ was.ports; vids = ap vids_of kept.vids ∙ was.vids; attached = kept.attached ∙ was.attached }
 
 pub serves_one_more : (count : ℕ) (v w : BridgeView) → IsServing count v → w ≡ step (attach (service 0 (count + 1))) v → IsServing (count + 1) w
 serves_one_more count v w was is =
@@ -107,5 +118,15 @@ serves_one_more count v w was is =
     subst (λ (u : BridgeView). IsServing (count + 1) u) (sym is) (record {
       ports = bridge.ports ∙ was.ports;
       vids = ap vids_of bridge.vids ∙ was.vids;
-      attached = bridge.attached ∙ ap (λ (as : List Attachment). as ++ service 0 (count + 1) ∷ []) was.attached;
+      attached = still_so_many 0 count v.attached (step (attach (service 0 (count + 1))) v).attached was.attached bridge.attached;
     })
+
+-- ---- as it is configured
+
+pub configured_serving : (count : ℕ) (c : BridgeConfig) (v : BridgeView) → IsWhole c → c.ports ≡ 1 → vids_of c.vids ≡ 10 ∷ [] → c.attached ≡ services 0 count → v ≡ configured c → IsServing count v
+configured_serving count c v whole port vids attached is =
+    let made : v ≡ with_lsps (configured c).database (configured c).spent (bare c) = is ∙ configured_is c in
+    subst (IsServing count) (sym made) (record { ports = length-map c.metrics port_without_carrier ∙ (whole.metrics ∙ port); vids = vids; attached = attached })
+
+pub lit_serving : (count : ℕ) (v w : BridgeView) → IsServing count v → w ≡ step (carrier 1 true) v → IsServing count w
+lit_serving count v w was is = still_serving count v w was (kept_after (carrier 1 true) v w refl is)

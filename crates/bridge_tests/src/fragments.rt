@@ -170,7 +170,7 @@ fn goes_on<B: Bridge>(rt: &impl Abort, alloc: Global, a: B)
     holds(rt, &a, &SAID_BY_ONE);
     a.hear(rt, &changed(rt, alloc, OLD_LSP, &TO_EIGHTH_OF_1));
     holds(rt, &a, &EIGHTH_OF_1);
-    a.attach_next(rt);
+    let a = a.with_next(rt);
     holds(rt, &a, &ONE_MORE);
     made_holds(rt, &a.without_last(rt), &ONE_LESS);
 }

@@ -8,6 +8,7 @@ ghost use Rattle.bridge_tests.specs.Services as many;
 
 use crate::fixtures::{Made, one_port};
 use bridge_api::{Bridge, BridgeConfig, Outbox};
+use flooding::OWN_NUMBERS;
 use lsdb::Version;
 use spb_types::{Attachment, BridgeId, Isid, Mac, NoMemory, Seq, SourceId, SystemId, Vid, VidPlan};
 use std::alloc::Global;
@@ -40,7 +41,7 @@ fn service(base: u32, port: u16) -> Attachment
 }
 
 /// The customer ports from 1 to a count.
-#[tactic(auto, using(crate::proofs::ManyServices::one_more))]
+#[tactic(auto, using(crate::proofs::ManyServices::still_so_many))]
 fn services(alloc: Global, base: u32, count: u16) -> Result<Seq<Attachment>, NoMemory>
     requires base { base ≤ 1000 }
     requires count { count ≤ 960 }
@@ -59,7 +60,7 @@ fn lives(alloc: Global, life: u32) -> Result<Seq<u32>, NoMemory>
     ensures long { IfOk result (λ last. length last ≡ own_numbers) }
     ensures each { IfOk result (AllByRecursion (λ n. n ≤ last_number)) }
 {
-    let last = vec![in alloc; life; 16]?;
+    let last = vec![in alloc; life; usize::from(OWN_NUMBERS)]?;
     Ok(Seq::from_vec(last))
 }
 
@@ -90,6 +91,7 @@ fn config_with(
 }
 
 /// The configuration of a bridge of services.
+#[tactic(auto, using(crate::proofs::ManyServices::each_service, crate::proofs::ManyServices::services_apart, crate::proofs::ManyServices::few_isids))]
 fn config(alloc: Global, served: Served) -> Result<BridgeConfig, NoMemory>
     requires base { served.base ≤ 1000 }
     requires count { served.count ≤ 960 }
@@ -103,17 +105,21 @@ fn config(alloc: Global, served: Served) -> Result<BridgeConfig, NoMemory>
     config_with(alloc, served.last, attached, lives)
 }
 
-/// Makes a blank bridge that of a configuration with one port, with carrier there.
-fn make<B: Bridge>(bridge: &mut B, config: &BridgeConfig) -> Result<(), NoMemory>
+/// Makes a blank bridge A with so many customer ports, with carrier at the port 1.
+fn make<B: Bridge>(alloc: Global, bridge: &mut B, count: u16) -> Result<(), NoMemory>
     requires blank { (B.shown bridge.old).blank ≡ true }
-    requires whole { IsWhole config.now }
-    requires port { config.now.ports ≡ 1 }
+    requires few { count ≤ 960 }
     ensures made { OnOk result ((B.shown bridge.new).blank ≡ false) }
-    ensures ports { OnOk result (length (B.shown bridge.new).view.ports ≡ 1) }
-    ensures vids { OnOk result ((B.shown bridge.new).view.vids ≡ config.now.vids) }
-    ensures attached { OnOk result ((B.shown bridge.new).view.attached ≡ config.now.attached) }
+    ensures serving { OnOk result (IsServing count (B.shown bridge.new).view) }
 {
-    bridge.configure(config)?;
+    let served = Served {
+        last: 1,
+        base: 0,
+        count,
+        life: 0,
+    };
+    let config = config(alloc, served)?;
+    bridge.configure(&config)?;
     bridge.carrier(1, true)
 }
 
@@ -127,6 +133,19 @@ fn heard<B: Bridge>(bridge: &mut B, frame: &[u8], outbox: &mut Outbox) -> Result
     bridge.receive(1, frame, outbox)
 }
 
+/// The same, with memory.
+fn hear<B: Bridge>(rt: &impl Abort, bridge: &mut B, frame: &[u8], outbox: &mut Outbox)
+    requires made { (B.shown bridge.old).blank ≡ false }
+    requires port { length (B.shown bridge.old).view.ports ≡ 1 }
+    ensures still_made { (B.shown bridge.new).blank ≡ false }
+    ensures kept { IsKept (B.shown bridge.old).view (B.shown bridge.new).view }
+{
+    match heard(bridge, frame, outbox) {
+        Ok(()) => {}
+        Err(_) => panic!(*rt; "out of memory"),
+    }
+}
+
 /// The metric of the link at the port 1 is set. The bridge is kept.
 fn metric_set<B: Bridge>(bridge: &mut B, metric: u32) -> Result<(), NoMemory>
     requires made { (B.shown bridge.old).blank ≡ false }
@@ -138,6 +157,20 @@ fn metric_set<B: Bridge>(bridge: &mut B, metric: u32) -> Result<(), NoMemory>
     bridge.set_metric(1, metric)
 }
 
+/// The same, with memory.
+fn set_metric<B: Bridge>(rt: &impl Abort, bridge: &mut B, metric: u32)
+    requires made { (B.shown bridge.old).blank ≡ false }
+    requires port { length (B.shown bridge.old).view.ports ≡ 1 }
+    requires metric { IsMetric metric }
+    ensures still_made { (B.shown bridge.new).blank ≡ false }
+    ensures kept { IsKept (B.shown bridge.old).view (B.shown bridge.new).view }
+{
+    match metric_set(bridge, metric) {
+        Ok(()) => {}
+        Err(_) => panic!(*rt; "out of memory"),
+    }
+}
+
 /// The next customer port is attached.
 fn attached_next<B: Bridge>(bridge: &mut B, count: u16) -> Result<(), NoMemory>
     requires made { (B.shown bridge.old).blank ≡ false }
@@ -146,11 +179,8 @@ fn attached_next<B: Bridge>(bridge: &mut B, count: u16) -> Result<(), NoMemory>
     ensures still_made { (B.shown bridge.new).blank ≡ false }
     ensures serving { OnOk result (IsServing (count + 1) (B.shown bridge.new).view) }
 {
-    let port = count + 1;
-    let isid = Isid {
-        value: u32::from(port),
-    };
-    bridge.attach(port, isid, VID)
+    let next = service(0, count + 1);
+    bridge.attach(next.port, next.isid, next.vid)
 }
 
 /// The last customer port is detached.
@@ -220,15 +250,8 @@ impl<B: Bridge> Serving<B> {
         requires { (B.shown blank).blank ≡ true }
     {
         assert!(*rt; count <= 960);
-        let served = Served {
-            last: 1,
-            base: 0,
-            count,
-            life: 0,
-        };
-        let config = config(alloc, served).expect(rt, "out of memory");
         let mut bridge = blank;
-        match make(&mut bridge, &config) {
+        match make(alloc, &mut bridge, count) {
             Ok(()) => Serving {
                 alloc,
                 bridge,
@@ -239,29 +262,30 @@ impl<B: Bridge> Serving<B> {
     }
 
     /// A frame comes to the port 1.
+    #[tactic(auto, using(crate::proofs::ManyServices::still_serving))]
     pub(crate) fn hear(&mut self, rt: &impl Abort, frame: &[u8]) {
         let mut outbox = Outbox::new(self.alloc);
-        match heard(&mut self.bridge, frame, &mut outbox) {
-            Ok(()) => {}
-            Err(_) => panic!(*rt; "out of memory"),
-        }
+        hear(rt, &mut self.bridge, frame, &mut outbox);
     }
 
     /// Sets the metric of the link at the port 1.
+    #[tactic(auto, using(crate::proofs::ManyServices::still_serving))]
     pub(crate) fn set_metric(&mut self, rt: &impl Abort, metric: u32)
         requires { IsMetric metric }
     {
-        match metric_set(&mut self.bridge, metric) {
-            Ok(()) => {}
-            Err(_) => panic!(*rt; "out of memory"),
-        }
+        set_metric(rt, &mut self.bridge, metric);
     }
 
     /// Attaches the next customer port.
-    pub(crate) fn attach_next(&mut self, rt: &impl Abort) {
+    pub(crate) fn with_next(self, rt: &impl Abort) -> Self {
         assert!(*rt; self.count < 960);
-        match attached_next(&mut self.bridge, self.count) {
-            Ok(()) => self.count += 1,
+        let mut bridge = self.bridge;
+        match attached_next(&mut bridge, self.count) {
+            Ok(()) => Serving {
+                alloc: self.alloc,
+                bridge,
+                count: self.count + 1,
+            },
             Err(_) => panic!(*rt; "out of memory"),
         }
     }
