@@ -1,7 +1,7 @@
 //! Tests of the counts of dropped frames.
 ghost use Rattle.std.specs.Prelude.{◌≡◌, true};
 
-use crate::fixtures::{Made, are_equal, boxed, changed, meet};
+use crate::fixtures::{DEAD, Made, are_equal, boxed, changed, meet};
 use bridge_api::{Bridge, DropReason, Drops};
 use lsdb::Version;
 use std::alloc::Global;
@@ -26,11 +26,6 @@ const PSNP: &[u8] = b"\
     \x01\x80\xc2\x00\x00\x14\x02\x00\x00\x00\x00\x02\x00\x26\xfe\xfe\x03\x83\x11\x01\x00\x1a\x01\x00\
     \x00\x00\x23\x02\x00\x00\x00\x00\x02\x00\x09\x10\x04\xae\x02\x00\x00\x00\x00\x03\x00\x00\x00\x00\
     \x00\x02\xc2\xf3";
-
-/// The header of a dead LSP of the system 3, which is taken whatever its id, as a frame from B.
-const DEAD: &[u8] = b"\
-    \x01\x80\xc2\x00\x00\x14\x02\x00\x00\x00\x00\x02\x00\x1e\xfe\xfe\x03\x83\x1b\x01\x00\x12\x01\x00\
-    \x00\x00\x1b\x00\x00\x02\x00\x00\x00\x00\x03\x00\x00\x00\x00\x00\x01\x00\x00\x01";
 
 /// All counts of a bridge.
 fn counts<B: Bridge>(made: &Made<B>) -> Drops {

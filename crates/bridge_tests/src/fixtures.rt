@@ -27,6 +27,16 @@ macro_rules! boxed {
 
 pub(crate) use boxed;
 
+/// The header of a dead LSP of the system 3, which is taken whatever its id, as a frame from B.
+pub(crate) const DEAD: &[u8] = b"\
+    \x01\x80\xc2\x00\x00\x14\x02\x00\x00\x00\x00\x02\x00\x1e\xfe\xfe\x03\x83\x1b\x01\x00\x12\x01\x00\
+    \x00\x00\x1b\x00\x00\x02\x00\x00\x00\x00\x03\x00\x00\x00\x00\x00\x01\x00\x00\x01";
+
+/// An LSP of A at number 9 that says nothing, as a frame from B.
+pub(crate) const OLD_LSP: &[u8] = b"\
+    \x01\x80\xc2\x00\x00\x14\x02\x00\x00\x00\x00\x02\x00\x1e\xfe\xfe\x03\x83\x1b\x01\x00\x12\x01\x00\
+    \x00\x00\x1b\x03\xe8\x02\x00\x00\x00\x00\x01\x00\x00\x00\x00\x00\x09\xcc\x26\x01";
+
 /// The configuration of a bridge with one port. Its address ends in this number, which is its source too.
 macro_rules! one_port {
     ($number:expr, $vids:expr, $metrics:expr, $attached:expr, $last:expr) => {
@@ -50,6 +60,8 @@ macro_rules! one_port {
         }
     };
 }
+
+pub(crate) use one_port;
 
 /// The configuration of a bridge with one port and no VID.
 fn config(alloc: Global, last: u8) -> Result<BridgeConfig, NoMemory>
@@ -243,7 +255,7 @@ pub(crate) struct Made<B: Bridge> {
 
 impl<B: Bridge> Made<B> {
     /// A blank bridge becomes that of a configuration, with carrier at the port 1.
-    fn of(rt: &impl Abort, alloc: Global, blank: B, config: &BridgeConfig) -> Self
+    pub(crate) fn of(rt: &impl Abort, alloc: Global, blank: B, config: &BridgeConfig) -> Self
         requires blank { (B.shown blank).blank ≡ true }
         requires whole { IsWhole config.now }
         requires port { 1 ≤ config.now.ports }
@@ -289,6 +301,18 @@ impl<B: Bridge> Made<B> {
     {
         let config = config_of_member(alloc, last).expect(rt, "out of memory");
         Self::of(rt, alloc, blank, &config)
+    }
+
+    /// A bridge with one port that was made elsewhere.
+    pub(crate) fn of_one_port(alloc: Global, bridge: B) -> Self
+        requires made { (B.shown bridge).blank ≡ false }
+        requires port { length (B.shown bridge).view.ports ≡ 1 }
+    {
+        Made {
+            alloc,
+            bridge,
+            ports: 1,
+        }
     }
 
     /// What is sent as a second passes.

@@ -9,8 +9,12 @@ mod drops;
 #[cfg(test)]
 mod fixtures;
 #[cfg(test)]
+mod fragments;
+#[cfg(test)]
 mod plain;
 #[cfg(test)]
 mod rows;
+#[cfg(test)]
+mod serving;
 #[cfg(test)]
 mod swift;

@@ -4,7 +4,7 @@ ghost use Rattle.bridge_api.specs.Step.{second, with_wire};
 ghost use Rattle.bridge_api.specs.Among.{stepped_at, sent_from_place};
 ghost use Rattle.bridge_api.specs.Shown.{views_of};
 
-use crate::fixtures::{Made, are_equal, boxed, changed, meet};
+use crate::fixtures::{Made, OLD_LSP, are_equal, boxed, changed, meet};
 use adjacency::{AdjState, Adjacency};
 use bridge_api::{Bridge, Kind, Outbox};
 use lsdb::{DbRow, Version};
@@ -24,11 +24,6 @@ const INITIALIZING_HELLO: &[u8] = b"\
     \x01\x80\xc2\x00\x00\x14\x02\x00\x00\x00\x00\x01\x00\x31\xfe\xfe\x03\x83\x14\x01\x00\x11\x01\x00\
     \x00\x01\x02\x00\x00\x00\x00\x01\x00\x03\x00\x2e\x01\x01\x04\x03\x49\x00\x01\x81\x01\xc1\xf0\x0f\
     \x01\x00\x00\x00\x01\x02\x00\x00\x00\x00\x02\x00\x00\x00\x01";
-
-/// An LSP of A at number 9 that says nothing, as a frame from B.
-const OLD_LSP: &[u8] = b"\
-    \x01\x80\xc2\x00\x00\x14\x02\x00\x00\x00\x00\x02\x00\x1e\xfe\xfe\x03\x83\x1b\x01\x00\x12\x01\x00\
-    \x00\x00\x1b\x03\xe8\x02\x00\x00\x00\x00\x01\x00\x00\x00\x00\x00\x09\xcc\x26\x01";
 
 /// Asserts that one frame alone is sent, at the port 1.
 fn is_only_frame(rt: &impl Abort, outbox: &Outbox, frame: &[u8]) {
