@@ -51,6 +51,8 @@ macro_rules! one_port {
     };
 }
 
+pub(crate) use one_port;
+
 /// The configuration of a bridge with one port and no VID.
 fn config(alloc: Global, last: u8) -> Result<BridgeConfig, NoMemory>
     ensures whole { IfOk result IsWhole }
@@ -243,7 +245,7 @@ pub(crate) struct Made<B: Bridge> {
 
 impl<B: Bridge> Made<B> {
     /// A blank bridge becomes that of a configuration, with carrier at the port 1.
-    fn of(rt: &impl Abort, alloc: Global, blank: B, config: &BridgeConfig) -> Self
+    pub(crate) fn of(rt: &impl Abort, alloc: Global, blank: B, config: &BridgeConfig) -> Self
         requires blank { (B.shown blank).blank ≡ true }
         requires whole { IsWhole config.now }
         requires port { 1 ≤ config.now.ports }

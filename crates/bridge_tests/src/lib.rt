@@ -9,6 +9,8 @@ mod drops;
 #[cfg(test)]
 mod fixtures;
 #[cfg(test)]
+mod lives;
+#[cfg(test)]
 mod plain;
 #[cfg(test)]
 mod rows;
