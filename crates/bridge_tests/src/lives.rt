@@ -26,78 +26,75 @@ const SYSTEM: SystemId = SystemId {
     },
 };
 
-/// What is held of the own LSP of a number, and is to be sent nowhere.
-const fn row(number: u8, version: Version, lifetime: u16) -> DbRow {
-    DbRow {
-        id: LspId {
-            system: SYSTEM,
-            pseudonode: 0,
-            number,
-        },
-        version,
-        lifetime,
-        srm: PortSet { bits: 0 },
-        ssn: PortSet { bits: 0 },
-    }
-}
-
-/// An own LSP that is live.
-const fn live(number: u8, seq: u32, sum: u16) -> DbRow {
-    row(number, Version::Live { seq, sum }, 1200)
-}
-
-/// An own LSP that is dead.
-const fn dead(number: u8, seq: u32) -> DbRow {
-    row(number, Version::Dead { seq }, 0)
-}
-
 /// The numbers of a life before.
 const LAST: &[u32] = &[
     0, 1, 2, 7, 100, 0, 5, 4294967294, 0, 9, 1, 0, 3, 0, 65536, 4294967294,
 ];
 
-/// What is held above those, where the first four LSPs have something to say.
-const HELD: &[DbRow] = &[
-    live(0, 1, 0xea15),
-    live(1, 2, 0xb831),
-    live(2, 3, 0xcefa),
-    live(3, 8, 0xb00d),
-    dead(4, 100),
-    dead(6, 5),
-    dead(7, 4294967294),
-    dead(9, 9),
-    dead(10, 1),
-    dead(12, 3),
-    dead(14, 65536),
-    dead(15, 4294967294),
+/// The versions by number that a life of 181 services begins with above those: the first four LSPs have something to
+/// say.
+const HELD: &[Version] = &[
+    Version::Live {
+        seq: 1,
+        sum: 0xea15,
+    },
+    Version::Live {
+        seq: 2,
+        sum: 0xb831,
+    },
+    Version::Live {
+        seq: 3,
+        sum: 0xcefa,
+    },
+    Version::Live {
+        seq: 8,
+        sum: 0xb00d,
+    },
+    Version::Dead { seq: 100 },
+    Version::Absent,
+    Version::Dead { seq: 5 },
+    Version::Dead { seq: 4294967294 },
+    Version::Absent,
+    Version::Dead { seq: 9 },
+    Version::Dead { seq: 1 },
+    Version::Absent,
+    Version::Dead { seq: 3 },
+    Version::Absent,
+    Version::Dead { seq: 65536 },
+    Version::Dead { seq: 4294967294 },
 ];
 
-/// The same numbers, but for the last number at the third LSP.
-const LAST_AT_SAYING: &[u32] = &[
-    0, 1, 4294967295, 7, 100, 0, 5, 4294967294, 0, 9, 1, 0, 3, 0, 65536, 4294967294,
+/// The numbers of no life before.
+const NO_LAST: &[u32] = &[0, 0, 0, 0, 0, 0, 0, 0, 0, 0, 0, 0, 0, 0, 0, 0];
+
+/// The versions by number that a life of one service begins with above those.
+const HELD_OF_ONE: &[Version] = &[
+    Version::Live {
+        seq: 1,
+        sum: 0xe889,
+    },
+    Version::Absent,
+    Version::Absent,
+    Version::Absent,
+    Version::Absent,
+    Version::Absent,
+    Version::Absent,
+    Version::Absent,
+    Version::Absent,
+    Version::Absent,
 ];
 
-/// What is held above those.
-const HELD_AT_SAYING: &[DbRow] = &[
-    live(0, 1, 0xea15),
-    live(1, 2, 0xb831),
-    dead(2, 4294967295),
-    live(3, 8, 0xb00d),
-    dead(4, 100),
-    dead(6, 5),
-    dead(7, 4294967294),
-    dead(9, 9),
-    dead(10, 1),
-    dead(12, 3),
-    dead(14, 65536),
-    dead(15, 4294967294),
-];
+/// The last version of all.
+const LAST_OF_ALL: Version = Version::Dead { seq: u32::MAX };
 
-/// The last number, at an LSP that has nothing to say.
-const LAST_AT_SILENT: &[u32] = &[0, 0, 0, 0, 0, 0, 0, 0, 0, 4294967295, 0, 0, 0, 0, 0, 0];
-
-/// What is held above those, where the first LSP alone has something to say.
-const HELD_AT_SILENT: &[DbRow] = &[live(0, 1, 0xe889), dead(9, 4294967295)];
+/// The items, with another at a place.
+fn with<T: Copy>(rt: &impl Abort, alloc: Global, items: &[T], place: usize, item: T) -> Vec<T> {
+    let mut with = Vec::from_slice(alloc, items).expect(rt, "out of memory");
+    if let Some(other) = with.get_mut(place) {
+        *other = item;
+    }
+    with
+}
 
 /// The service of a number in the VID 10, at the customer port of that number.
 fn service(number: u16) -> Attachment
@@ -161,9 +158,41 @@ fn begun<B: Bridge>(rt: &impl Abort, alloc: Global, blank: B, count: u8, last: &
     Made::of(rt, alloc, blank, &config)
 }
 
-/// Asserts what a bridge holds.
-fn check_held<B: Bridge>(rt: &impl Abort, alloc: Global, made: &Made<B>, held: &[DbRow]) {
-    are_equal(rt, &rows(rt, alloc, made).as_slice(), &held);
+/// The own LSP of a number and a version, which is to be sent nowhere.
+fn row(number: u8, version: Version) -> DbRow {
+    let lifetime = match version {
+        Version::Live { .. } => 1200,
+        _ => 0,
+    };
+    DbRow {
+        id: LspId {
+            system: SYSTEM,
+            pseudonode: 0,
+            number,
+        },
+        version,
+        lifetime,
+        srm: PortSet { bits: 0 },
+        ssn: PortSet { bits: 0 },
+    }
+}
+
+/// The own LSPs of these versions by number.
+fn rows_of(rt: &impl Abort, alloc: Global, versions: &[Version]) -> Vec<DbRow> {
+    let mut rows = Vec::new(alloc);
+    for number in 0..16 {
+        match versions.get(usize::from(number)) {
+            None | Some(Version::Absent) => {}
+            Some(version) => rows.push(row(number, *version)).expect(rt, "out of memory"),
+        }
+    }
+    rows
+}
+
+/// Asserts that a bridge holds own LSPs of these versions by number, and nothing else.
+fn check_held<B: Bridge>(rt: &impl Abort, alloc: Global, made: &Made<B>, versions: &[Version]) {
+    let held = rows_of(rt, alloc, versions);
+    are_equal(rt, &rows(rt, alloc, made).as_slice(), &held.as_slice());
 }
 
 /// Asserts how a life begins of whose LSPs none was at the last number.
@@ -180,25 +209,35 @@ fn a_life_begins_above_the_life_before_in_both_kinds(rt: HostRuntime) {
     begins(&rt, rt.alloc(), SwiftBridge::blank(rt.alloc()));
 }
 
-/// Asserts that the port 1 is Up, and that the first LSP is still the one with which the life began.
-fn check_first_stays<B: Bridge>(rt: &impl Abort, made: &Made<B>) {
-    let first = Version::Live {
-        seq: 1,
-        sum: 0xea15,
-    };
-    are_equal(rt, &made.seen().0.state, &AdjState::Up);
-    are_equal(rt, &made.held_at(0).0, &first);
+/// A bridge whose third LSP, which has something to say, was at the last number.
+fn begun_spent<B: Bridge>(rt: &impl Abort, alloc: Global, blank: B) -> Made<B>
+    requires { (B.shown blank).blank ≡ true }
+{
+    let last = with(rt, alloc, LAST, 2, u32::MAX);
+    begun(rt, alloc, blank, 181, &last)
 }
 
-/// Asserts that a life begins spent where an LSP that has something to say was at the last number: the others are live
-/// all the same, but say nothing new of a neighbour.
+/// Asserts that the third LSP of that one is dead, and the others are as they would be else.
+fn check_spent<B: Bridge>(rt: &impl Abort, alloc: Global, made: &Made<B>) {
+    let held = with(rt, alloc, HELD, 2, LAST_OF_ALL);
+    check_held(rt, alloc, made, &held);
+}
+
+/// Asserts that the port 1 is Up, and that the first LSP is still the one with which the life began.
+fn check_first_stays<B: Bridge>(rt: &impl Abort, made: &Made<B>) {
+    are_equal(rt, &made.seen().0.state, &AdjState::Up);
+    are_equal(rt, &made.held_at(0).0, &HELD[0]);
+}
+
+/// Asserts that a life begins spent where an LSP was at the last number: the others begin all the same, but say nothing
+/// of a neighbour that comes up.
 fn begins_spent<B: Bridge>(rt: &impl Abort, alloc: Global, a: B, b: B)
     requires a { (B.shown a).blank ≡ true }
     requires b { (B.shown b).blank ≡ true }
 {
-    let mut a = begun(rt, alloc, a, 181, LAST_AT_SAYING);
+    let mut a = begun_spent(rt, alloc, a);
     let mut b = Made::in_vid_10(rt, alloc, b, 2);
-    check_held(rt, alloc, &a, HELD_AT_SAYING);
+    check_spent(rt, alloc, &a);
     meet(rt, &mut a, &mut b, 1);
     check_first_stays(rt, &a);
     meet(rt, &mut a, &mut b, 2);
@@ -213,15 +252,17 @@ fn a_life_begins_spent_at_the_last_number_in_both_kinds(rt: HostRuntime) {
 }
 
 /// Asserts how a life begins where an LSP that has nothing to say was at the last number.
-fn begins_with_one_service<B: Bridge>(rt: &impl Abort, alloc: Global, blank: B)
+fn begins_silent<B: Bridge>(rt: &impl Abort, alloc: Global, blank: B)
     requires { (B.shown blank).blank ≡ true }
 {
-    let made = begun(rt, alloc, blank, 1, LAST_AT_SILENT);
-    check_held(rt, alloc, &made, HELD_AT_SILENT);
+    let last = with(rt, alloc, NO_LAST, 9, u32::MAX);
+    let held = with(rt, alloc, HELD_OF_ONE, 9, LAST_OF_ALL);
+    let made = begun(rt, alloc, blank, 1, &last);
+    check_held(rt, alloc, &made, &held);
 }
 
 #[test]
-fn a_silent_lsp_is_dead_at_the_last_number_in_both_kinds(rt: HostRuntime) {
-    begins_with_one_service(&rt, rt.alloc(), boxed!(rt));
-    begins_with_one_service(&rt, rt.alloc(), SwiftBridge::blank(rt.alloc()));
+fn an_lsp_that_says_nothing_is_dead_at_the_last_number_in_both_kinds(rt: HostRuntime) {
+    begins_silent(&rt, rt.alloc(), boxed!(rt));
+    begins_silent(&rt, rt.alloc(), SwiftBridge::blank(rt.alloc()));
 }
