@@ -1,5 +1,5 @@
 -- The services of a test, each at the customer port of its number: so they can be attached together.
-use Rattle.std.proofs.Common.{◌≡◌, ◌≢◌, ◌<◌, ◌≤◌, ◌+◌, ℕ, zero, suc, Bool, true, false, List, [], ◌∷◌, ◌++◌, length, get_or, map, refl, sym, ap, ◌∙◌, subst, arith}
+use Rattle.std.proofs.Common.{rules, ◌≡◌, ◌<◌, ◌≤◌, ◌+◌, ℕ, Bool, true, false, List, [], ◌∷◌, ◌++◌, length, map, sym, ◌∙◌, subst, arith}
 use Rattle.std.specs.Prelude.{IsTrue, nat_eq, if◌then◌else◌}
 use Rattle.std.specs.List.{AllByRecursion, list_any}
 use Rattle.std.proofs.lemmas.List.{length-append, length-map}
@@ -74,9 +74,3 @@ different_few (n ∷ ns) = no_longer (list_any (nat_eq n) ns) n ns (different ns
 pub few : (n : ℕ) (attached : List Attachment) → n ≤ 255 → AreServices n attached → length (different (map (λ (a : Attachment). a.isid.value) attached)) ≤ 960
 few n attached low are =
     omega (arith, different_few (map (λ (a : Attachment). a.isid.value) attached), length-map attached (λ (a : Attachment). a.isid.value), are.long, low)
-
--- ---- numbers that fit
-
-pub each_fits : (ns : List ℕ) → ((k : ℕ) → k < length ns → get_or ns k 0 ≤ 4294967295) → AllByRecursion (λ n. n ≤ 4294967295) ns
-each_fits [] fits = tt
-each_fits (n ∷ ns) fits = (fits 0 (omega arith), each_fits ns (λ k low. fits (suc k) (omega (arith, low))))

@@ -2,4 +2,4 @@ use Rattle.bridge_tests.proofs.Services.{AreServices}
 use Rattle.bridge_tests.proofs.lives.services.Given as goal
 
 abbrev pub invariant-loop-place : goal.invariant-loop-place
-invariant-loop-place g l = AreServices l.place l.services
+invariant-loop-place l = AreServices l.place l.services
