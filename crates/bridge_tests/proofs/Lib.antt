@@ -1,1 +1,2 @@
 pub mod ManyServices
+mod Services

@@ -58,7 +58,7 @@ fn check_port<B: Bridge>(rt: &impl Abort, made: &Made<B>, expected: (AdjState, b
 }
 
 /// What is held, in order, but for the bodies.
-fn rows<B: Bridge>(rt: &impl Abort, alloc: Global, made: &Made<B>) -> Vec<DbRow> {
+pub(crate) fn rows<B: Bridge>(rt: &impl Abort, alloc: Global, made: &Made<B>) -> Vec<DbRow> {
     let mut rows = Vec::new(alloc);
     for place in 0..4096 {
         if let Some(held) = made.bridge.entry(place) {
