@@ -10,6 +10,7 @@ mod drops;
 mod fixtures;
 #[cfg(test)]
 mod fragments;
+#[cfg(test)]
 mod lives;
 #[cfg(test)]
 mod plain;
