@@ -142,7 +142,8 @@ pub trait Bridge: Drop {
 
     /// Attaches a customer port to a service, an I-SID in a base VID (IEEE 802.1ah, 25.10). The port is free and 1 to
     /// 1,024; the I-SID is 1 to 16,777,215; the VID is one of the bridge, and that of the other ports of the I-SID; and
-    /// there are at most 960 I-SIDs afterwards. The bridge originates if it has something else to say.
+    /// there are at most 960 I-SIDs afterwards. The bridge originates each of its own LSPs in which it has something
+    /// else to say.
     fn attach(&mut self, port: u16, isid: Isid, vid: Vid) -> Result<(), NoMemory>
         requires made { (shown self.old).blank ≡ false }
         requires can { (shown self.old).view.failed ≡ false →
@@ -156,8 +157,8 @@ pub trait Bridge: Drop {
         ensures kind { (shown self.new).kind ≡ (shown self.old).kind };
 
     /// Detaches a customer port that is attached. What was learned there is forgotten, and all that was learned in its
-    /// I-SID where it was the last port of this (IEEE 802.1Q, 8.7). The bridge originates if it has something else to
-    /// say.
+    /// I-SID where it was the last port of this (IEEE 802.1Q, 8.7). The bridge brings its own LSPs up to date: it
+    /// originates each in which it has something else to say, and purges each in which it has nothing to say any more.
     fn detach(&mut self, port: u16) -> Result<(), NoMemory>
         requires made { (shown self.old).blank ≡ false }
         requires attached { (shown self.old).view.failed ≡ false → IsAttachedPort (shown self.old).view port }

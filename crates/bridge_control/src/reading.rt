@@ -189,8 +189,8 @@ fn push_read(
     Ok(())
 }
 
-/// What a bridge reads of all systems from the LSPs that it holds, in order of their ids. Where a system has several,
-/// they are put behind one another and read once (ISO/IEC 10589, 7.3.7).
+/// What a bridge reads of all systems from the LSPs that it holds, in order of their ids. Where any LSP of a
+/// number above 0 is read, those of each system are put behind one another and read once (ISO/IEC 10589, 7.3.7).
 pub(crate) fn contents(alloc: Global, db: &Database) -> Result<Vec<(SystemId, Content)>, NoMemory>
     ensures read { IfOk result (λ list. list.items ≡ tables.contents_among (tables.live_lsps db.now)) }
     ensures few { IfOk result (λ list. length list.items ≤ MOST_LSPS) }

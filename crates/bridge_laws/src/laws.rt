@@ -130,10 +130,11 @@ pub fn neighbours_come_up()
 }
 
 /// A bridge that holds its own LSPs alone, each at number k at most, and hears hellos alone, holds them alone after a
-/// step, each at number k + 1 at most; and in a second it sends at each port at most three frames for each own number,
-/// and two. That is said below the last number, of a bridge whose sequence numbers aren't spent, such as a configured
-/// one in its first life, with its own LSPs at number 1 at most. Whatever else a bridge holds, a step brings no LSP but
-/// its own, and in a second it sends at each port at most three frames for each LSP that it holds then, and two.
+/// step, each at number k + 1 at most; and in a second it sends, at all ports together, for each port at most three frames
+/// for each own number, and two. That is said below the last number, of a bridge whose sequence numbers aren't spent, such
+/// as a configured one in its first life, with its own LSPs at number 1 at most. Whatever else a bridge holds, a step
+/// brings no more LSPs than it has own numbers, and in a second it sends, for each port, at most three frames for each LSP
+/// that it held before and for each own number, and two.
 pub fn few_are_held_and_sent()
     ensures configured { ConfiguredHoldsFew }
     ensures steps { StepsHoldFew }
