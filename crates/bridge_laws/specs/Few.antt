@@ -43,7 +43,7 @@ abbrev pub StepsHoldFew : Type 0
 StepsHoldFew = (k : ℕ) (input : Input) (v : BridgeView)
     → k < last_number → IsHelloAlone input → HoldsFew k v → HoldsFew (k + 1) (step input v)
 
--- and whatever a bridge holds, a step brings no more LSPs than it has own numbers
+-- and whatever a bridge holds, a step in which it hears hellos alone brings no more LSPs than it has own numbers
 abbrev pub StepsBringFew : Type 0
 StepsBringFew = (input : Input) (v : BridgeView)
     → IsHelloAlone input → len (step input v).database ≤ len v.database + own_numbers

@@ -13,9 +13,9 @@ ghost use Rattle.bridge_laws.specs.Counting.{StepsHoldIds, StepsLearn, StepsLear
 use itag_frames::control_again;
 
 /// A configured bridge is sound, and stays so: unless its sequence numbers are spent, each own LSP in which it has
-/// something to say is live for 301 to 1,200 seconds and says that, and no other is live. It has the ports of its
-/// configuration and no carrier yet, and holds its own LSPs alone, each as it begins above the number that it had in
-/// the life before. What a sound bridge says of itself can be written, fits its LSPs, and is octets.
+/// something to say is live for 301 to 1,200 seconds and says that, and no other own one is live. It has the ports of
+/// its configuration and no carrier yet, and holds its own LSPs alone, each as it begins above the number that it had
+/// in the life before. What a sound bridge says of itself can be written, fits its LSPs, and is octets.
 pub fn bridges_are_sound()
     ensures configured { ConfiguredIsSound }
     ensures no_carrier { ConfiguredHasNoCarrier }
@@ -46,8 +46,9 @@ pub fn steps_keep_neighbours()
 /// Each frame that a sound bridge sends and that is heard as a hello names its sender and port, the state there, and
 /// nobody but the neighbour that is kept; an LSP that is sent is the one that its sender holds, and what a frame claims
 /// is just what its sender holds. Any other frame carries a customer's. In each second one hello is sent at each port
-/// with carrier, and nothing at others. The neighbour that is kept, if one is, has a circuit id of four bytes, as in
-/// every frame. Each LSP and each PSNP that is sent in a second is heard as what it is.
+/// with carrier, and nothing at others. What is said of frames and hellos is said where the neighbour that is kept, if
+/// one is, has a circuit id of four bytes, as in every frame. Each LSP and each PSNP that is sent in a second is heard
+/// as what it is.
 pub fn frames_are_heard()
     ensures sound { SentIsSound }
     ensures one_hello { OneHello }
@@ -130,11 +131,11 @@ pub fn neighbours_come_up()
 }
 
 /// A bridge that holds its own LSPs alone, each at number k at most, and hears hellos alone, holds them alone after a
-/// step, each at number k + 1 at most; and in a second it sends, at all ports together, for each port at most three frames
-/// for each own number, and two. That is said below the last number, of a bridge whose sequence numbers aren't spent, such
-/// as a configured one in its first life, with its own LSPs at number 1 at most. Whatever else a bridge holds, a step
-/// brings no more LSPs than it has own numbers, and in a second it sends, for each port, at most three frames for each LSP
-/// that it held before and for each own number, and two.
+/// step, each at number k + 1 at most; and in a second it sends, for each port, at most three frames for each own
+/// number, and two. That is said below the last number, of a bridge whose sequence numbers aren't spent, such as a
+/// configured one in its first life, with its own LSPs at number 1 at most. Whatever else a bridge holds, a step in
+/// which it hears hellos alone brings at most 16 LSPs; and in a second it sends, for each port, at most three frames
+/// for each LSP that it held and for each of 16 more, and two.
 pub fn few_are_held_and_sent()
     ensures configured { ConfiguredHoldsFew }
     ensures steps { StepsHoldFew }

@@ -54,7 +54,7 @@ SettlingDoesntSpend = (test : Test) (up : PortSet) (h : Holding)
     → ((id : LspId) → IsOwnNumber h.own.system id → number_of (version_at h.db id) < last_number)
     → (settled_by test up h).own ≡ h.own
 
--- no ids come but those of own LSPs
+-- no more ids come than there are own numbers
 abbrev pub SettlingBringsFew : Type 0
 SettlingBringsFew = (test : Test) (up : PortSet) (h : Holding)
     → len (settled_by test up h).db ≤ len h.db + own_numbers

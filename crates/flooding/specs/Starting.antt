@@ -68,7 +68,7 @@ abbrev pub StartingKeepsFew : Type 0
 StartingKeepsFew = (last : List ℕ) (h : Holding) → length last ≤ own_numbers → HasFewOthers h
     → HasFewOthers (started_all last 0 h)
 
--- no ids come but those of own LSPs
+-- no more ids come than the list has numbers
 abbrev pub StartingBringsFew : Type 0
 StartingBringsFew = (last : List ℕ) (h : Holding) → len (started_all last 0 h).db ≤ len h.db + length last
 

@@ -85,8 +85,9 @@ pub fn settling_keeps_what_steps_keep()
     ensures silence { SettlingKeepsSilence }
 {}
 
-/// After they were brought up to date each own LSP that the system has a body for is live with it for 301 to 1,200
-/// seconds more, and no other is live, unless the system is spent. What is heard keeps it so, and then each stands.
+/// After they were brought up to date, where those that were live had lifetime enough left, each own LSP that the
+/// system has a body for is live with it for 301 to 1,200 seconds more, and no other own one is live, unless the system
+/// is spent. What is heard keeps it so, and then each stands.
 pub fn own_lsps_are_current()
     ensures settled { SettledIsCurrent }
     ensures fresh { FreshIsCurrent }
@@ -142,8 +143,8 @@ pub fn flags_stand_at_up_ports()
     ensures bringing { BringingKeepsFlags }
 {}
 
-/// Every body that is held stays octets, whatever a life begins with and is heard, brought up to date or aged in it, where
-/// what is heard is octets and the system says octets.
+/// Every body that is held stays octets, whatever a life begins with and is heard, brought up to date or aged in it,
+/// where what is heard is octets and the system says octets.
 pub fn bodies_stay_octets()
     ensures lsp { LspKeepsOctets }
     ensures entry { EntryKeepsOctets }
@@ -159,8 +160,9 @@ pub fn own_lsps_live_1200_seconds()
 
 /// A life that held nothing yet begins with its own LSPs alone: one with a body is live one past the number of the life
 /// before; one without is dead at that number, or isn't held where it is 0; and one that was at the last number is dead
-/// there. What is held stays so that it can be sent, flags stay at the ports where they may stand, and no other ids come.
-/// A body is the one that was held, that of the number, or that of a dead LSP.
+/// there. What is held stays so that it can be sent, flags stay at the ports where they may stand, and where none stood
+/// none comes. At most as many ids come as there are numbers of the life before, and of those that aren't own numbers
+/// no more come to be held than have room. A body is the one that was held, that of the number, or that of a dead LSP.
 pub fn a_life_begins_above_the_one_before()
     ensures alone { StartingIsAlone }
     ensures sendable { StartingKeepsSendable }

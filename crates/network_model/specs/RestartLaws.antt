@@ -34,8 +34,8 @@ pub record BeginsAbove (old new : BridgeView) : Type 0 where
       → Advanced (get old.database (own_number old.id.system k)) (get new.database (own_number old.id.system k))
 
 -- the bridge at place i restarted in the box at a place of the rack: it is what the configuration makes with the
--- present metrics and attachments, and then carrier; its own LSPs begin above those of the life before; the rack lacks
--- that box, nothing else is declared, and the seconds of its name are counted on
+-- present metrics and attachments, and then carrier; its life comes after the one before; the rack lacks that box,
+-- nothing else is declared, and the seconds of its name are counted on
 pub record IsNew (s t : State) (i : ℕ) (b : DeclaredBridge) (place : ℕ) : Type 0 where
   pub view : slice_get t.views i ≡ Some (with_carriers (links_of s) i (configured (restart_config s i b)))
   pub above : (v : BridgeView) → slice_get s.views i ≡ Some v

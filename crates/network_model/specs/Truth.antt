@@ -60,7 +60,7 @@ pub record HoldTheSame (v w : BridgeView) : Type 0 where
   pub bodies : (id : LspId) (d e : Entry) → get v.database id ≡ Some d → get w.database id ≡ Some e
       → is_live e.version ≡ true → d.body ≡ e.body
 
--- in a quiet network all bridges that a walk joins hold the same
+-- in a quiet network in which no live version has two bodies, all bridges that a walk joins hold the same
 abbrev pub QuietIsShared : Type 0
 QuietIsShared = (s : State) (v w : BridgeView) → IsSoundState s → IsCalm s → HaveOneBody s → AreJoined s v w
     → HoldTheSame v w

@@ -41,8 +41,10 @@ pub fn a_delivery_is_one_step()
 {}
 
 /// A bridge that restarted is one that was just configured with the metrics of its links and what is attached to its
-/// ports, and then got carrier on its links that are up: nothing is left of what it held but its sequence numbers,
-/// above which its own LSPs begin. It took the next blank box of its kind; without one nothing changes.
+/// ports, and then got carrier on its links that are up: nothing is left of what it held but the sequence numbers of
+/// its own LSPs. That of LSP number 0 goes one further, if it can; and each own LSP has version and body as they were,
+/// or a greater sequence number, or is dead at one that isn't lower. It took the next blank box of its kind; without
+/// one nothing changes.
 pub fn a_restart_begins_anew()
     ensures { RestartIsNew }
 {}
@@ -86,9 +88,10 @@ pub fn quiet_says_what_it_reads_like()
     ensures { QuietSays }
 {}
 
-/// In a quiet network all bridges that a walk over links joins hold the same, and each reads of each other what that
-/// one has to say: the links of the wiring. So its graph is the part of the wiring that it reaches, with the best paths
-/// of the wiring, and its tables are those that are wired for it.
+/// In a quiet network in which no live version has two bodies, all bridges that a walk over links that are up joins
+/// hold the same. Where no bridge has spent its sequence numbers either, and each reads at most 65,535 systems, each
+/// reads of each other that is joined to it what that one has to say: the links of the wiring. So its graph is the part
+/// of the wiring that it reaches, with the best paths of the wiring, and its tables are those that are wired for it.
 pub fn quiet_is_true()
     ensures shared { QuietIsShared }
     ensures read { QuietIsRead }

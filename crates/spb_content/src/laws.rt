@@ -53,7 +53,8 @@ pub fn fragments_fit()
     ensures { FragmentsFit }
 {}
 
-/// What a bridge writes is octets, in one or in fragments, if its id and those of its neighbours are.
+/// What a bridge writes is octets, in fragments, and with at most 60 I-SIDs in one, if its id and those of its
+/// neighbours are.
 pub fn content_is_octets()
     ensures one { ContentIsOctets }
     ensures fragments { FragmentsAreOctets }
