@@ -48,8 +48,8 @@ abbrev pub StepsBringFew : Type 0
 StepsBringFew = (input : Input) (v : BridgeView)
     → IsHelloAlone input → len (step input v).database ≤ len v.database + own_numbers
 
--- in a second, a bridge sends at all ports together, for each port, at most a hello and a CSNP, and a CSNP, an LSP and a
--- PSNP for each LSP that it holds when it sends: at most its own ones more than before
+-- in a second, a bridge sends at all ports together, for each port, at most a hello and a CSNP, and a CSNP, an LSP and
+-- a PSNP for each LSP that it holds when it sends: at most its own ones more than before
 abbrev pub SecondsSendFew : Type 0
 SecondsSendFew = (v : BridgeView)
     → length (sent second v) ≤ (3 * (len v.database + own_numbers) + 2) * length v.ports
