@@ -20,12 +20,16 @@ pub struct Edge {
     pub cost: u32,
 }
 
-/// A bridge that takes part in a service, and the base VID of that service.
+/// A bridge that takes part in a service, the base VID of that service, and what the bridge does there.
 #[derive(Clone, Copy, Debug, PartialEq, Eq)]
 pub struct Member {
     pub system: SystemId,
     pub isid: Isid,
     pub vid: Vid,
+    /// Whether it sends to the service (RFC 6329, 16.1: T).
+    pub transmit: bool,
+    /// Whether it receives what is sent to it (R).
+    pub receive: bool,
 }
 
 /// A backbone: its bridges, the edges between them, and the members of its services.

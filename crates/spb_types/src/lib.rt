@@ -9,6 +9,7 @@
 pub use address::{BridgeId, LspId, Mac, SystemId, group_address};
 pub use drop_reason::DropReason;
 pub use ect::ect_mask;
+pub use entry_word::EntryWord;
 pub use fields::{lsp_id_in, mac_in, system_in, u16_in, u24_in, u32_in};
 pub use graph::{Edge, Graph, GraphBridge, Member};
 pub use level::LEVEL_1;
@@ -17,13 +18,14 @@ pub use memory::NoMemory;
 pub use name::Name;
 pub use ports::PortSet;
 pub use seq::Seq;
-pub use service::{Attachment, Isid, SourceId, Vid, VidPlan};
-pub use tables::{GroupRow, Path, Tables, UnicastRow, group_of, ingress_ok, unicast_of};
+pub use service::{Attachment, Isid, Mode, SourceId, Vid, VidPlan};
+pub use tables::{GroupRow, Path, TableRow, Tables, UnicastRow, group_of, ingress_ok, unicast_of};
 pub use take::{Short, take_u8, take_u16, take_u24, take_u32};
 
 mod address;
 mod drop_reason;
 mod ect;
+mod entry_word;
 mod fields;
 mod graph;
 pub mod laws;

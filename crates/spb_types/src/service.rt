@@ -1,4 +1,6 @@
 //! Services and VIDs: their numbers, and what a customer port is attached to.
+ghost use Rattle.std.specs.Prelude.{◌≡◌};
+ghost use Rattle.spb_types.specs.Service as spec;
 
 /// A backbone service instance: 24 bits, 1 to 16,777,215 (IEEE 802.1ah, 9.7).
 #[derive(Clone, Copy, Debug, PartialEq, Eq, PartialOrd, Ord, Hash)]
@@ -25,11 +27,46 @@ pub struct VidPlan {
     pub ect: u8,
 }
 
-/// A customer port, and the service instance and base VID that it is attached to (IEEE 802.1ah, 25.10).
+/// What a customer port does in the service instance that it is attached to (RFC 6329, 16.1: T and R).
+#[derive(Clone, Copy, Debug, PartialEq, Eq)]
+pub enum Mode {
+    /// It sends and receives.
+    Both,
+    /// It sends: frames enter at it, and none leave.
+    Send,
+    /// It receives: frames leave at it, and none enter.
+    Recv,
+}
+
+impl Mode {
+    /// Whether frames enter at such a port.
+    pub fn sends(self) -> bool
+        ensures { result ≡ spec.sends self }
+    {
+        match self {
+            Mode::Both | Mode::Send => true,
+            Mode::Recv => false,
+        }
+    }
+
+    /// Whether frames leave at such a port.
+    pub fn receives(self) -> bool
+        ensures { result ≡ spec.receives self }
+    {
+        match self {
+            Mode::Both | Mode::Recv => true,
+            Mode::Send => false,
+        }
+    }
+}
+
+/// A customer port, the service instance and base VID that it is attached to, and what it does there (IEEE 802.1ah,
+/// 25.10).
 #[derive(Clone, Copy, Debug, PartialEq, Eq)]
 pub struct Attachment {
     /// The number of the port, from 1 on.
     pub port: u16,
     pub isid: Isid,
     pub vid: Vid,
+    pub mode: Mode,
 }

@@ -24,6 +24,13 @@ pub struct GroupRow {
     pub ports: PortSet,
 }
 
+/// A row of either table.
+#[derive(Clone, Copy, Debug, PartialEq, Eq)]
+pub enum TableRow {
+    Unicast(UnicastRow),
+    Group(GroupRow),
+}
+
 /// The tables of a bridge, each in ascending order of (VID, address).
 #[derive(Debug, Drop)]
 pub struct Tables {
