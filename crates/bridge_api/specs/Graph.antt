@@ -5,10 +5,8 @@ use Rattle.std.specs.FinMap.{get}
 use Rattle.spb_types.specs.declared.address.SystemId.{SystemId}
 use Rattle.spb_types.specs.declared.address.LspId.{LspId}
 use Rattle.spb_types.specs.declared.graph.Graph.{Graph}
-use Rattle.spb_types.specs.declared.graph.Member.{Member}
 use Rattle.spb_types.specs.declared.service.Vid.{Vid}
 use Rattle.spb_types.specs.declared.service.VidPlan.{VidPlan}
-use Rattle.spb_types.specs.declared.service.Attachment.{Attachment}
 use Rattle.spb_types.specs.declared.tables.Path.{Path}
 use Rattle.spb_types.specs.declared.limits.TheConstants.{MOST_GRAPH_BRIDGES}
 use Rattle.spb_types.specs.Graph.{IsDistinct, IsValid}
@@ -21,13 +19,14 @@ use Rattle.lsdb.specs.Time.{is_live}
 use Rattle.flooding.specs.Own.{own_id}
 use Rattle.spb_content.specs.declared.content.Content.{Content}
 use Rattle.spb_content.specs.Local.{said_by}
+use Rattle.spb_content.specs.Members.{merged}
 use Rattle.spb_content.specs.Graph.{systems_in, members_of, IsGraphOf, HasOwnPorts}
 use Rattle.fdb_build.specs.Tables.{unicast_rows}
 use Rattle.fdb_build.specs.Groups.{group_rows}
 use Rattle.bridge_api.specs.View.{BridgeView, metrics_of, is_up_at, neighbour_at}
 use Rattle.bridge_api.specs.Tables.{live_lsps, said_among}
 pub use Rattle.bridge_api.specs.Tables.{contents_of, read_graph, own_tables}
-use Rattle.bridge_api.specs.Own.{member_of, local_of}
+use Rattle.bridge_api.specs.Own.{local_of}
 use Rattle.bridge_api.specs.Laws.{IsSoundView}
 
 -- what the live LSPs that are held of a system say, put together, if the one of number 0 is live
@@ -83,15 +82,11 @@ SaysItsNeighbours = (v : BridgeView) (n : Neighbour) → Contains (local_of v).n
 
 -- ---- of which services it says that it is a member
 
--- a customer port of the bridge is attached so
-abbrev pub IsMemberBy : BridgeView → Member → Type 0
-IsMemberBy v m = (a : Attachment) × Contains v.attached a × (m ≡ member_of v.id.system a)
-
--- a bridge says that it is a member of the services to which its customer ports are attached, in their VIDs, and of no
--- others
+-- what a bridge reads of what it says: it is a member of each service that its customer ports are attached to, once, and
+-- transmits and receives there as they do together
 abbrev pub MembersAreSaid : Type 0
-MembersAreSaid = (v : BridgeView) (m : Member)
-    → Contains (members_of (v.id.system, said_by (local_of v))) m ↔ IsMemberBy v m
+MembersAreSaid = (v : BridgeView) → IsSoundView v
+    → members_of (v.id.system, said_by (local_of v)) ≡ merged v.id.system (local_of v).attached
 
 -- ---- its tables
 

@@ -49,7 +49,7 @@ use Rattle.bridge_api.specs.Config.{IsWhole, IsOwnMac, IsMetric, IsAttachment, A
 use Rattle.bridge_api.specs.Parsing.{Parsed, hello_in, parsed, is_hello}
 use Rattle.bridge_api.specs.Parsing as parsing
 use Rattle.bridge_api.specs.Hearing.{with_carrier, heard_lsp, heard_csnp, heard_psnp}
-use Rattle.bridge_api.specs.Services.{IsAttachedPort, CanAttach, without_customer_port}
+use Rattle.bridge_api.specs.Services.{IsAttachedPort, IsSendingPort, CanAttach, without_customer_port}
 use Rattle.bridge_api.specs.Customers.{IsCustomerFrame, AreLearned}
 use Rattle.bridge_api.specs.Step.{Input, second, frame, carrier, metric, attach, detach, customer, step, sent}
 
@@ -134,7 +134,7 @@ IsInput v (carrier q on) = ⊤
 IsInput v (metric q m) = IsMetric m
 IsInput v (attach a) = CanAttach v a
 IsInput v (detach p) = IsAttachedPort v p
-IsInput v (customer p bytes) = IsAttachedPort v p × IsCustomerFrame bytes
+IsInput v (customer p bytes) = IsSendingPort v p × IsCustomerFrame bytes
 
 abbrev pub StepsStaySound : Type 0
 StepsStaySound = (input : Input) (v : BridgeView) → IsInput v input → IsSoundView v → IsSoundView (step input v)

@@ -1,6 +1,7 @@
 -- What a bridge says of itself, and its own LSPs (RFC 6329, 13 to 16; ISO/IEC 10589, 7.3.7).
 use Rattle.std.specs.Prelude.{◌≡◌, ℕ, ◌+◌, ◌≤◌, ◌<◌, List, [], ◌∷◌, map, Option, if◌then◌else◌}
 use Rattle.std.specs.FinMap.{get}
+use Rattle.spb_types.specs.Service.{sends, receives}
 use Rattle.spb_types.specs.declared.address.SystemId.{SystemId}
 use Rattle.spb_types.specs.declared.graph.Member.{Member}
 use Rattle.spb_types.specs.declared.service.Attachment.{Attachment}
@@ -33,9 +34,16 @@ neighbours_from p [] = []
 neighbours_from p (port ∷ ports) =
     if is_port_up port then neighbour_in p port ∷ neighbours_from (p + 1) ports else neighbours_from (p + 1) ports
 
--- an attached customer port makes the bridge a member of its service
+-- an attached customer port makes the bridge a member of its service: it transmits where the port sends, and receives
+-- where the port does
 abbrev pub member_of : SystemId → Attachment → Member
-member_of system a = record { system = system; isid = a.isid; vid = a.vid }
+member_of system a = record {
+  system = system;
+  isid = a.isid;
+  vid = a.vid;
+  transmit = sends a.mode;
+  receive = receives a.mode;
+}
 
 -- what a bridge knows of itself: its configuration, its neighbours and what is attached
 abbrev pub local_of : BridgeView → Local

@@ -1,6 +1,8 @@
 -- The customer ports of a bridge and the services that they are attached to (IEEE 802.1ah, 25.10).
-use Rattle.std.specs.Prelude.{◌≡◌, ℕ, ◌≤◌, List, [], ◌∷◌, ◌++◌, length, map, Contains}
+use Rattle.std.specs.Prelude.{◌≡◌, ℕ, ◌≤◌, List, [], ◌∷◌, ◌++◌, length, map, true, Contains}
 use Rattle.std.specs.List.{AllByRecursion}
+use Rattle.spb_types.specs.Service.{sends}
+use Rattle.spb_types.specs.declared.service.Mode.{Mode}
 use Rattle.spb_types.specs.declared.service.Vid.{Vid}
 use Rattle.spb_types.specs.declared.service.Isid.{Isid}
 use Rattle.spb_types.specs.declared.service.Attachment.{Attachment}
@@ -12,14 +14,18 @@ use Rattle.bridge_api.specs.Customers.{tenant_of, with_learned}
 use Rattle.bridge_api.specs.Own.{originated_if_changed}
 use Rattle.bridge_api.specs.Config.{IsAttachment, AgreesWith, different, vids_of}
 
-abbrev pub attachment_of : ℕ → Isid → Vid → Attachment
-attachment_of port isid vid = record { port = port; isid = isid; vid = vid }
+abbrev pub attachment_of : ℕ → Isid → Vid → Mode → Attachment
+attachment_of port isid vid mode = record { port = port; isid = isid; vid = vid; mode = mode }
 
 -- ---- what can be attached and detached
 
 -- a customer port is attached
 abbrev pub IsAttachedPort : BridgeView → ℕ → Type 0
 IsAttachedPort v port = (a : Attachment) × Contains v.attached a × (a.port ≡ port)
+
+-- a customer port is attached, and sends
+abbrev pub IsSendingPort : BridgeView → ℕ → Type 0
+IsSendingPort v port = (a : Attachment) × Contains v.attached a × (a.port ≡ port) × (sends a.mode ≡ true)
 
 -- a customer port can be attached so: to an I-SID in a VID of the bridge, where the port is free, the other ports of
 -- the I-SID are in that VID, and there are at most 960 I-SIDs afterwards

@@ -28,13 +28,23 @@ use Rattle.fdb_build.specs.Tables.{mac_cmp, vid_cmp, ascending_by, AscendsBy, Ar
 
 -- ---- which ports are in a group row
 
--- x sends to the service in this VID
-abbrev pub Sends : Graph → Isid → Vid → SystemId → Type 0
-Sends g isid vid x = Contains g.members (record { system = x; isid = isid; vid = vid })
+-- x sends to the service in this VID: as a member of it, it transmits
+pub record Sends (g : Graph) (isid : Isid) (vid : Vid) (x : SystemId) : Type 0 where
+  pub member : Member
+  pub there : Contains g.members member
+  pub of_system : member.system ≡ x
+  pub in_service : member.isid ≡ isid
+  pub in_vid : member.vid ≡ vid
+  pub transmits : member.transmit ≡ true
 
--- x receives what is sent to the service in this VID; each member does both
-abbrev pub Receives : Graph → Isid → Vid → SystemId → Type 0
-Receives g isid vid x = Contains g.members (record { system = x; isid = isid; vid = vid })
+-- x receives what is sent to the service in this VID
+pub record Receives (g : Graph) (isid : Isid) (vid : Vid) (x : SystemId) : Type 0 where
+  pub member : Member
+  pub there : Contains g.members member
+  pub of_system : member.system ≡ x
+  pub in_service : member.isid ≡ isid
+  pub in_vid : member.vid ≡ vid
+  pub receives : member.receive ≡ true
 
 -- c directly follows m on the best path from s to r
 pub record Follows (g : Graph) (mask : ℕ) (s r m c : SystemId) : Type 0 where
@@ -95,11 +105,11 @@ is_member isid vid x m = same_system m.system x && ((m.isid.value == isid.value)
 
 -- whether x sends to the service in this VID
 abbrev pub sends_in : Graph → Isid → Vid → SystemId → Bool
-sends_in g isid vid x = list_any (is_member isid vid x) g.members
+sends_in g isid vid x = list_any (λ m. is_member isid vid x m && m.transmit) g.members
 
 -- whether x receives what is sent to it
 abbrev pub receives_in : Graph → Isid → Vid → SystemId → Bool
-receives_in g isid vid x = list_any (is_member isid vid x) g.members
+receives_in g isid vid x = list_any (λ m. is_member isid vid x m && m.receive) g.members
 
 -- the port of `me` to the bridge that follows it on the best path from s to r
 abbrev pub port_after : Graph → ℕ → SystemId → SystemId → SystemId → Option ℕ

@@ -77,9 +77,13 @@ abbrev pub is_member_at : Graph → Isid → Vid → ℕ → Member → Bool
 is_member_at g isid vid place m =
     is_at place (place_of g m.system) && ((m.isid.value == isid.value) && (m.vid.value == vid.value))
 
--- whether one of these members is of this service at the bridge of this place; each member sends to it and receives
-abbrev pub is_member_among : Graph → List Member → Vid → Isid → ℕ → Bool
-is_member_among g ms vid isid place = list_any (is_member_at g isid vid place) ms
+-- whether one of these members sends to this service from the bridge at this place
+abbrev pub is_sender_among : Graph → List Member → Vid → Isid → ℕ → Bool
+is_sender_among g ms vid isid place = list_any (λ m. is_member_at g isid vid place m && m.transmit) ms
+
+-- whether one of them receives from it there
+abbrev pub is_receiver_among : Graph → List Member → Vid → Isid → ℕ → Bool
+is_receiver_among g ms vid isid place = list_any (λ m. is_member_at g isid vid place m && m.receive) ms
 
 -- the lists that stand in a list
 abbrev pub lists_in : {V : Type 0} → List (Vec V) → List (List V)
@@ -94,26 +98,22 @@ abbrev pub sent_by : Services → Option ℕ → List Isid
 sent_by s None = []
 sent_by s (Some place) = sent_at s place
 
--- whoever sends to a service receives from it, and the other way round
-abbrev pub AreSendersReceivers : Services → Type 0
-AreSendersReceivers s = (isid : Isid) (place : ℕ)
-    → list_any (same_isid isid) (sent_at s place) ≡ list_any (same_place place) (list_at isid_cmp s.receivers isid)
-
 -- a member was added to the services in a VID, if it is in that VID
 pub record Added (g : Graph) (vid : Vid) (m : Member) (old new : Services) : Type 0 where
   pub places : length new.sends.items ≡ length old.sends.items
   pub sends : (isid : Isid) (place : ℕ) → list_any (same_isid isid) (sent_at new place)
-      ≡ (list_any (same_isid isid) (sent_at old place) || is_member_at g isid vid place m)
+      ≡ (list_any (same_isid isid) (sent_at old place) || (is_member_at g isid vid place m && m.transmit))
   pub receives : (isid : Isid) (place : ℕ) → list_any (same_place place) (list_at isid_cmp new.receivers isid)
-      ≡ (list_any (same_place place) (list_at isid_cmp old.receivers isid) || is_member_at g isid vid place m)
+      ≡ (list_any (same_place place) (list_at isid_cmp old.receivers isid)
+      || (is_member_at g isid vid place m && m.receive))
 
 -- the services in a VID of these members
 pub record AreServicesOf (g : Graph) (ms : List Member) (vid : Vid) (s : Services) : Type 0 where
   pub places : length s.sends.items ≡ length g.bridges
   pub sends : (isid : Isid) (place : ℕ)
-      → list_any (same_isid isid) (sent_at s place) ≡ is_member_among g ms vid isid place
+      → list_any (same_isid isid) (sent_at s place) ≡ is_sender_among g ms vid isid place
   pub receives : (isid : Isid) (place : ℕ)
-      → list_any (same_place place) (list_at isid_cmp s.receivers isid) ≡ is_member_among g ms vid isid place
+      → list_any (same_place place) (list_at isid_cmp s.receivers isid) ≡ is_receiver_among g ms vid isid place
 
 -- ---- the ports behind `me`
 

@@ -66,18 +66,8 @@ fn put<K: Ord + Drop, V: Drop>(
     Ok(())
 }
 
-/// Whether a place is the last of these.
-fn is_last(places: &[usize], place: usize) -> bool
-    ensures { result ≡ making.is_at place (slice_get places.now (length places.now - 1)) }
-{
-    match places.last() {
-        None => false,
-        Some(last) => *last == place,
-    }
-}
-
 impl Services {
-    /// Adds a member, if it is in this VID, unless it repeats the one before it in its service.
+    /// Adds a member, if it is in this VID: to the senders, to the receivers, or to both.
     fn add(
         &mut self,
         alloc: Global,
@@ -87,7 +77,6 @@ impl Services {
     ) -> Result<(), NoMemory>
         requires valid { IsValid roads.now }
         requires places { length self.old.sends.items ≡ length roads.now.bridges }
-        requires same { making.AreSendersReceivers self.old }
         ensures { OnOk result (making.Added roads.now vid member self.old self.new) }
     {
         if member.vid != vid {
@@ -96,11 +85,13 @@ impl Services {
         let Some(place) = roads.place_of(member.system) else {
             return Ok(());
         };
-        if is_last(self.receivers_of(member.isid), place) {
-            return Ok(());
+        if member.transmit {
+            put_at(&mut self.sends, place, member.isid)?;
         }
-        put_at(&mut self.sends, place, member.isid)?;
-        put(alloc, &mut self.receivers, member.isid, place)
+        if member.receive {
+            put(alloc, &mut self.receivers, member.isid, place)?;
+        }
+        Ok(())
     }
 
     /// The services of the graph's members in this VID.

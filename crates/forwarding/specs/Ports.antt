@@ -1,8 +1,9 @@
 -- Ports at which frames enter and leave.
-use Rattle.std.specs.Prelude.{ℕ, List, map, filter, Bool, false, not, ◌&&◌, ◌==◌, Option, Some, None, find}
+use Rattle.std.specs.Prelude.{ℕ, List, map, filter, Bool, false, not, ◌&&◌, ◌==◌, Option, Some, None, find, option_map_or}
 use Rattle.std.specs.List.{range_with_len, list_any}
 use Rattle.spb_types.specs.Ascending.{ascending}
 use Rattle.spb_types.specs.Ports.{has}
+use Rattle.spb_types.specs.Service.{receives}
 use Rattle.spb_types.specs.declared.limits.TheConstants.{MOST_PORTS}
 use Rattle.spb_types.specs.declared.ports.PortSet.{PortSet}
 use Rattle.spb_types.specs.declared.service.Attachment.{Attachment}
@@ -22,9 +23,16 @@ is_in isid a = a.isid.value == isid.value
 abbrev pub ports_of : Isid → List Attachment → List ℕ
 ports_of isid attached = ascending (λ p. p) (map (λ a. a.port) (filter (is_in isid) attached))
 
--- those of them at which the I-SID's frames leave: all
+-- those of them that receive: at these the I-SID's frames leave
+abbrev pub receives_in : Isid → Attachment → Bool
+receives_in isid a = is_in isid a && receives a.mode
+
 abbrev pub receiving_ports : Isid → List Attachment → List ℕ
-receiving_ports isid attached = ports_of isid attached
+receiving_ports isid attached = ascending (λ p. p) (map (λ a. a.port) (filter (receives_in isid) attached))
+
+-- whether a port is attached and doesn't receive: nothing leaves there
+abbrev pub is_mute : ℕ → List Attachment → Bool
+is_mute port attached = option_map_or (λ a. not (receives a.mode)) (attachment_of port attached) false
 
 -- whether some port is attached to the I-SID in this VID
 abbrev pub is_served : Isid → Vid → List Attachment → Bool

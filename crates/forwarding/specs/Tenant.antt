@@ -22,7 +22,7 @@ use Rattle.forwarding.specs.declared.going.Going.TheVariants as going
 use Rattle.forwarding.specs.declared.step.Step.{Step}
 use Rattle.forwarding.specs.declared.step.Step.TheVariants as step
 use Rattle.forwarding.specs.declared.tenant.Tenant.{Tenant}
-use Rattle.forwarding.specs.Ports.{attachment_of, receiving_ports, is_served, ports_in, is_way, but_for}
+use Rattle.forwarding.specs.Ports.{attachment_of, receiving_ports, is_mute, is_served, ports_in, is_way, but_for}
 
 -- a group address has the lowest bit of its first byte set (IEEE 802, the I/G bit)
 abbrev pub is_group : Mac → Bool
@@ -83,11 +83,15 @@ flooded t tables a frame = record {
   dropped = None;
 }
 
--- never at the port where it entered
+-- a port, unless it doesn't receive
+abbrev pub unless_mute : Tenant → ℕ → List ℕ
+unless_mute t q = if is_mute q t.attached then [] else q ∷ []
+
+-- never at the port where it entered, nor at one that doesn't receive
 abbrev pub entered_going : Tenant → Tables → Attachment → List ℕ → Going → Moved
 entered_going t tables a frame going.Everywhere = flooded t tables a frame
 entered_going t tables a frame (going.AtPort q) =
-    record { wire = []; left = each_with frame (but_for a.port (q ∷ [])); dropped = None }
+    record { wire = []; left = each_with frame (but_for a.port (unless_mute t q)); dropped = None }
 entered_going t tables a frame (going.Behind m) = sent_towards t a frame m (unicast_in tables.unicast a.vid m)
 
 abbrev pub entered : Tenant → Tables → Attachment → List ℕ → Moved
@@ -171,10 +175,10 @@ after_delivery taken t f = record t {
   learned = if taken then with_source (place.Remote f.sa) f.isid f.customer t.learned else t.learned;
 }
 
--- and the customer's frame leaves at this bridge's customer ports
+-- and the customer's frame leaves at this bridge's customer ports that receive
 abbrev pub delivered_going : Tenant → Carried → Going → List (ℕ × List ℕ)
 delivered_going t f going.Everywhere = each_with f.customer (receiving_ports f.isid t.attached)
-delivered_going t f (going.AtPort q) = each_with f.customer (q ∷ [])
+delivered_going t f (going.AtPort q) = each_with f.customer (unless_mute t q)
 delivered_going t f (going.Behind m) = []
 
 abbrev pub delivered : Tenant → Carried → List (ℕ × List ℕ)

@@ -1,5 +1,6 @@
 -- The laws of sequence numbers in a network: they stay within bounds that no number of frames can move.
 use Rattle.std.specs.Prelude.{◌≡◌, ℕ, ◌+◌, ◌*◌, ◌≤◌, ◌<◌, List, false, Option, Some, None, slice_get}
+use Rattle.spb_types.specs.declared.service.Mode.{Mode}
 use Rattle.spb_types.specs.declared.address.LspId.{LspId}
 use Rattle.spb_types.specs.declared.link.Dir.{Dir}
 use Rattle.spb_types.specs.declared.link.Side.{Side}
@@ -52,7 +53,7 @@ pub record EventsKeepCounted : Type 0 where
   pub lose : (k : ℕ) (dir : Dir) (place : ℕ) → Raises 0 (λ s. lost s k dir place)
   pub double : (k : ℕ) (dir : Dir) (place : ℕ) → Raises 1 (λ s. doubled s k dir place)
   pub metric : (k : ℕ) (side : Side) (m : ℕ) → IsMetric m → Raises 2 (λ s. with_metric_changed s k side m)
-  pub attach : (i port isid : ℕ) → RaisesWhere 2 (MayAttach i port isid) (λ s. port_attached s i port isid)
+  pub attach : (i port isid : ℕ) (mode : Mode) → RaisesWhere 2 (MayAttach i port isid) (λ s. port_attached s i port isid mode)
   pub detach : (i port : ℕ) → RaisesWhere 2 (MayDetach i port) (λ s. port_detached s i port)
   pub enter : (i port : ℕ) (bytes : List ℕ) → RaisesWhere 0 (MayEnter i port bytes) (λ s. frame_entered s i port bytes)
   pub down : (k : ℕ) → Raises 2 (λ s. switched_off s k)

@@ -2,6 +2,7 @@
 use Rattle.std.specs.Prelude.{ℕ, zero, suc, ◌+◌, ◌-◌, ◌^◌, min, List, [], ◌∷◌, ◌++◌, length, map, Bool, true, false, Option, Some, None, slice_get, if◌then◌else◌}
 use Rattle.std.specs.Option.{option_map_or}
 use Rattle.link_model.specs.Lane.{Frame, pushed, after_lose, after_double}
+use Rattle.spb_types.specs.declared.service.Mode.{Mode}
 use Rattle.spb_types.specs.declared.link.Dir.{Dir}
 use Rattle.spb_types.specs.declared.link.Dir.TheVariants.{Ab, Ba}
 use Rattle.spb_types.specs.declared.link.Side.{Side}
@@ -112,13 +113,14 @@ abbrev pub with_attached_port : State → ℕ → Attachment → State
 with_attached_port s i a = stepped (comes.attach a) (record s { world = with_attachment_at s.world i a }) i
 
 -- and so it is to an I-SID in the base VID that was found for it
-abbrev pub attached_in_found : State → ℕ → ℕ → ℕ → Option Vid → State
-attached_in_found s i port isid None = s
-attached_in_found s i port isid (Some vid) = with_attached_port s i (attachment_of port (record { value = isid }) vid)
+abbrev pub attached_in_found : State → ℕ → ℕ → ℕ → Mode → Option Vid → State
+attached_in_found s i port isid mode None = s
+attached_in_found s i port isid mode (Some vid) =
+    with_attached_port s i (attachment_of port (record { value = isid }) vid mode)
 
--- a customer port of the bridge at place i is attached to the service of an I-SID
-unfoldable pub port_attached : State → ℕ → ℕ → ℕ → State
-port_attached s i port isid = attached_in_found s i port isid (vid_of_isid s.world.services isid)
+-- a customer port of the bridge at place i is attached to the service of an I-SID, to send, to receive or to do both
+unfoldable pub port_attached : State → ℕ → ℕ → ℕ → Mode → State
+port_attached s i port isid mode = attached_in_found s i port isid mode (vid_of_isid s.world.services isid)
 
 -- a customer port of the bridge at place i is detached
 unfoldable pub port_detached : State → ℕ → ℕ → State

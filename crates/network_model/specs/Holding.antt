@@ -1,6 +1,7 @@
 -- When each reason for a refusal holds of a command, in the words of what is declared.
 use Rattle.std.specs.Prelude.{◌≡◌, ◌↔◌, ◌⊎◌, ℕ, ◌+◌, ◌<◌, ◌≤◌, ◌%◌, List, length, replicate, slice_index, true, false, Option, Some, None, Any, Contains}
 use Rattle.std.specs.List.{AllByRecursion}
+use Rattle.spb_types.specs.Service.{sends}
 use Rattle.spb_types.specs.declared.address.Mac.{Mac}
 use Rattle.spb_types.specs.declared.limits.TheConstants.{GREATEST_ECT, GREATEST_ISID, GREATEST_VID, MOST_BRIDGES, MOST_CUSTOMER_PORTS, MOST_DELIVERIES, MOST_DELIVERIES_TOGETHER, MOST_ISIDS, MOST_LINKS, MOST_PORTS, MOST_ROUNDS, MOST_SERVICES, MOST_VIDS, SOURCE_IDS}
 use Rattle.spb_types.specs.declared.service.SourceId.{SourceId}
@@ -12,7 +13,7 @@ use Rattle.bridge_api.specs.Customers.{IsCustomerFrame}
 use Rattle.spb_world.specs.declared.declaration.DeclaredLink.{DeclaredLink}
 use Rattle.spb_world.specs.declared.declaration.LinkEnd.{LinkEnd}
 use Rattle.spb_world.specs.declared.reason.Reason.{Reason}
-use Rattle.spb_world.specs.declared.reason.Reason.TheVariants.{NoSuchName, NameTaken, IdTaken, PortUse, Range, TooMany, AlreadyLinked, AlreadyUp, AlreadyDown, Attached, NotAttached, NoFrame, RackSpent, TooLate}
+use Rattle.spb_world.specs.declared.reason.Reason.TheVariants.{NoSuchName, NameTaken, IdTaken, PortUse, Range, TooMany, AlreadyLinked, AlreadyUp, AlreadyDown, Attached, NotAttached, NoFrame, RackSpent, TooLate, ReceiveOnly}
 use Rattle.spb_world.specs.Reason.{reason_number}
 use Rattle.spb_world.specs.World.{World, Bridges, Links, names_of, things_of, place_of, ports_at, attached_at}
 use Rattle.network_model.specs.State.{State, lane_at, kind_at}
@@ -51,7 +52,7 @@ AsksUnknown w (Some q) = ¬ IsNamed q.bridge w.bridges
 abbrev pub NamesUnknown : World → Command → Type 0
 NamesUnknown w (command.Link name a port_a b port_b cost) = (¬ IsNamed a w.bridges) ⊎ (¬ IsNamed b w.bridges)
 NamesUnknown w (command.Isid isid vid) = ¬ IsVidOf w vid
-NamesUnknown w (command.Attach bridge port isid) = (¬ IsNamed bridge w.bridges) ⊎ (¬ IsIsidOf w isid)
+NamesUnknown w (command.Attach bridge port isid mode) = (¬ IsNamed bridge w.bridges) ⊎ (¬ IsIsidOf w isid)
 NamesUnknown w (command.Detach bridge port) = ¬ IsNamed bridge w.bridges
 NamesUnknown w (command.Frame bridge port bytes) = ¬ IsNamed bridge w.bridges
 NamesUnknown w (command.Metric link side m) = ¬ IsNamed link w.links
@@ -137,7 +138,7 @@ IsOutOfRange w (command.Bridge name priority system source ports) = ¬ IsBridgeI
 IsOutOfRange w (command.Link name a port_a b port_b cost) =
     HoldsAtBoth a b w.bridges (λ i j. ¬ IsLinkInRange w.bridges i port_a j port_b cost)
 IsOutOfRange w (command.Isid isid vid) = ¬ IsIsid isid
-IsOutOfRange w (command.Attach bridge port isid) = ¬ IsCustomerPort port
+IsOutOfRange w (command.Attach bridge port isid mode) = ¬ IsCustomerPort port
 IsOutOfRange w (command.Detach bridge port) = ¬ IsCustomerPort port
 IsOutOfRange w (command.Frame bridge port bytes) = ¬ (IsCustomerPort port × IsCustomerFrame bytes)
 IsOutOfRange w (command.Metric link side m) = ¬ IsMetric m
@@ -153,7 +154,7 @@ IsTooMany s (command.Bridge name priority system source ports) = MOST_BRIDGES �
 IsTooMany s (command.Link name a port_a b port_b cost) =
     HoldsAtBoth a b s.world.bridges (λ i j. MOST_LINKS ≤ length s.world.links)
 IsTooMany s (command.Isid isid vid) = MOST_SERVICES ≤ length s.world.services
-IsTooMany s (command.Attach bridge port isid) =
+IsTooMany s (command.Attach bridge port isid mode) =
     HoldsAt bridge s.world.bridges (λ i. MOST_ISIDS < length (isids_with (attached_at s.world i) isid))
 IsTooMany s (command.Round n) = MOST_ROUNDS < s.rounds + n
 IsTooMany s (command.Drain n) = MOST_DELIVERIES_TOGETHER < s.drained + n
@@ -186,7 +187,7 @@ abbrev pub HasAttached : World → ℕ → ℕ → Type 0
 HasAttached w i port = Any (λ a. a.port ≡ port) (attached_at w i)
 
 abbrev pub AttachesAgain : World → Command → Type 0
-AttachesAgain w (command.Attach bridge port isid) = HoldsAt bridge w.bridges (λ i. HasAttached w i port)
+AttachesAgain w (command.Attach bridge port isid mode) = HoldsAt bridge w.bridges (λ i. HasAttached w i port)
 AttachesAgain w _ = ⊥
 
 abbrev pub LacksAttached : World → Command → Type 0
@@ -218,6 +219,14 @@ abbrev pub ComesLate : World → Command → Type 0
 ComesLate w (command.Vid vid ect) = ¬ (length w.bridges ≡ 0)
 ComesLate w _ = ⊥
 
+-- 14: what is attached at the customer port of the bridge at a place doesn't send
+abbrev pub HasSending : World → ℕ → ℕ → Type 0
+HasSending w i port = Any (λ a. (a.port ≡ port) × (sends a.mode ≡ true)) (attached_at w i)
+
+abbrev pub LacksSending : World → Command → Type 0
+LacksSending w (command.Frame bridge port bytes) = HoldsAt bridge w.bridges (λ i. ¬ HasSending w i port)
+LacksSending w _ = ⊥
+
 -- a reason holds of a command
 abbrev pub Holds : State → Command → Reason → Type 0
 Holds s c NoSuchName = NamesUnknown s.world c
@@ -234,6 +243,7 @@ Holds s c NotAttached = LacksAttached s.world c
 Holds s c NoFrame = NamesNoFrame s c
 Holds s c RackSpent = LacksBox s c
 Holds s c TooLate = ComesLate s.world c
+Holds s c ReceiveOnly = LacksSending s.world c
 
 -- a reason holds, and none of a lower number does
 pub record IsFirst (s : State) (c : Command) (r : Reason) : Type 0 where

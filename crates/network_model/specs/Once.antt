@@ -1,5 +1,5 @@
--- A group frame that enters a quiet network leaves once at each other port of its service that the network can reach,
--- and nowhere else.
+-- A group frame that enters a quiet network leaves once at each other receiving port of its service that the network can
+-- reach, and nowhere else.
 use Rattle.std.specs.Prelude.{◌≡◌, ℕ, ◌≤◌, List, [], ◌∷◌, ◌++◌, length, count_by, Bool, true, ◌&&◌, ◌==◌, ◌<◌, Some, slice_get}
 use Rattle.std.specs.List.{AllByRecursion}
 use Rattle.std.specs.Str.{bytes_eq}
@@ -7,6 +7,7 @@ use Rattle.scenario.specs.declared.command.Command.{Command}
 use Rattle.scenario.specs.declared.command.Command.TheVariants as command
 use Rattle.spb_types.specs.declared.service.Isid.{Isid}
 use Rattle.forwarding.specs.Laws.{IsAttachedTo}
+use Rattle.forwarding.specs.Receiving.{IsReceivingTo}
 use Rattle.forwarding.specs.Tenant.{is_group, to_of}
 use Rattle.network_model.specs.declared.answer.Out.{Out}
 use Rattle.spb_world.specs.World.{World, names_of, things_of, place_of, attached_at}
@@ -22,9 +23,10 @@ use Rattle.network_model.specs.Isolation.{outs_in}
 
 -- ---- where it has to leave
 
--- what is sent to an I-SID leaves at a customer port of the bridge at place c: at each that is attached to it
+-- what is sent to an I-SID leaves at a customer port of the bridge at place c: at each that is attached to it and
+-- receives
 abbrev pub IsReceivingAt : World → ℕ → ℕ → Isid → Type 0
-IsReceivingAt w c q isid = IsAttachedTo (attached_at w c) q isid
+IsReceivingAt w c q isid = IsReceivingTo (attached_at w c) q isid
 
 -- what enters at port p of the bridge at place b has to leave at port q of the bridge at place c: another port, where
 -- what is sent to the I-SID of p leaves, of a bridge that a walk over links that are up joins to the first

@@ -4,6 +4,7 @@ use Rattle.link_model.specs.Lane.{Frame}
 use Rattle.isis_pdu.specs.Pdu.{HelloValue}
 use Rattle.spb_tlvs.specs.declared.three_way.ThreeWay.{ThreeWay}
 use Rattle.scenario.specs.declared.command.Command.{Command}
+use Rattle.spb_types.specs.declared.service.Mode.{Mode}
 use Rattle.spb_types.specs.declared.link.Dir.{Dir}
 use Rattle.spb_types.specs.declared.link.Dir.TheVariants.{Ab}
 use Rattle.spb_types.specs.declared.link.Side.{Side}
@@ -49,7 +50,7 @@ pub record EventsKeepSound : Type 0 where
   pub lose : (k : ℕ) (dir : Dir) (place : ℕ) → Keeps (λ s. lost s k dir place)
   pub double : (k : ℕ) (dir : Dir) (place : ℕ) → Keeps (λ s. doubled s k dir place)
   pub metric : (k : ℕ) (side : Side) (m : ℕ) → IsMetric m → Keeps (λ s. with_metric_changed s k side m)
-  pub attach : (i port isid : ℕ) → KeepsWhere (MayAttach i port isid) (λ s. port_attached s i port isid)
+  pub attach : (i port isid : ℕ) (mode : Mode) → KeepsWhere (MayAttach i port isid) (λ s. port_attached s i port isid mode)
   pub detach : (i port : ℕ) → KeepsWhere (MayDetach i port) (λ s. port_detached s i port)
   pub enter : (i port : ℕ) (bytes : List ℕ) → KeepsWhere (MayEnter i port bytes) (λ s. frame_entered s i port bytes)
   pub down : (k : ℕ) → Keeps (λ s. switched_off s k)

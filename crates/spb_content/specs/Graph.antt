@@ -1,5 +1,5 @@
 -- The graph that the LSPs of a backbone make (RFC 6329, 15 and 16; IEEE 802.1aq, 28).
-use Rattle.std.specs.Prelude.{◌≡◌, ◌≢◌, ◌↔◌, ℕ, ◌≤◌, List, [], ◌∷◌, map, flat_map, find, max, ◌&&◌, nat_le, Option, Some, None, is_some, IsSome, option_and_then, option_map, if◌then◌else◌, Contains, ⊤}
+use Rattle.std.specs.Prelude.{◌≡◌, ◌≢◌, ◌↔◌, ℕ, ◌≤◌, List, [], ◌∷◌, map, flat_map, find, max, ◌&&◌, ◌||◌, nat_le, Option, Some, None, is_some, IsSome, option_and_then, option_map, if◌then◌else◌, Contains, ⊤}
 use Rattle.std.specs.List.{AllByRecursion, filter_map}
 use Rattle.std.specs.Str.{bytes_eq}
 use Rattle.spb_types.specs.Address.{same_system}
@@ -13,6 +13,7 @@ use Rattle.spb_types.specs.declared.service.Vid.{Vid}
 use Rattle.spb_tlvs.specs.declared.capability.Service.{Service}
 use Rattle.spb_tlvs.specs.declared.neighbours.Neighbour.{Neighbour}
 use Rattle.spb_content.specs.declared.content.Content.{Content}
+use Rattle.spb_content.specs.Members.{merged}
 use Rattle.spb_types.specs.declared.limits.TheConstants.{GREATEST_METRIC, MOST_PORTS}
 
 -- what each of some systems says
@@ -68,16 +69,16 @@ port_said list x y = option_map (λ l. l.0.port) (link_said list x y)
 
 -- ---- members
 
--- a service makes its system a member where it stands at the system's own B-MAC, with T and R both set (RFC 6329, 16.1)
+-- a service makes its system a member where it stands at the system's own B-MAC, with T or R set (RFC 6329, 16.1)
 abbrev pub member_of : SystemId → Mac × Vid × Service → Option Member
 member_of x s =
-    if bytes_eq s.0.bytes x.mac.bytes && (s.2.transmit && s.2.receive)
-    then Some (record { system = x; isid = s.2.isid; vid = s.1 })
+    if bytes_eq s.0.bytes x.mac.bytes && (s.2.transmit || s.2.receive)
+    then Some (record { system = x; isid = s.2.isid; vid = s.1; transmit = s.2.transmit; receive = s.2.receive })
     else None
 
--- the members that the services of a system make it
+-- the members that the services of a system make it: one for each base VID and I-SID
 abbrev pub members_of : SystemId × Content → List Member
-members_of c = filter_map (member_of c.0) c.1.services
+members_of c = merged c.0 (filter_map (member_of c.0) c.1.services)
 
 -- ---- what is reached
 

@@ -1,6 +1,6 @@
 -- What a bridge says of itself in its LSPs (RFC 6329, 13 to 16).
-use Rattle.std.specs.Prelude.{◌≡◌, ℕ, ◌+◌, ◌/◌, ◌≤◌, ◌<◌, List, [], ◌∷◌, ◌++◌, length, map, filter, flat_map, true, Some, ◌==◌, ⊤}
-use Rattle.std.specs.List.{AllByRecursion}
+use Rattle.std.specs.Prelude.{◌≡◌, ℕ, ◌+◌, ◌/◌, ◌≤◌, ◌<◌, List, [], ◌∷◌, ◌++◌, length, map, filter, flat_map, Bool, ◌&&◌, ◌==◌, Some, ⊤}
+use Rattle.std.specs.List.{AllByRecursion, list_any}
 use Rattle.std.specs.Simd.{first_chunks}
 use Rattle.spb_types.specs.Ascending.{ascending}
 use Rattle.spb_types.specs.Service.{AreVidsApart}
@@ -48,13 +48,25 @@ isids_in attached = ascending isid_number (map (λ m. m.isid) attached)
 abbrev pub in_vid : Vid → List Member → List Member
 in_vid vid attached = filter (λ m. m.vid.value == vid.value) attached
 
--- a bridge sends frames of each of its services, and takes them: T and R are set
-abbrev pub service_with : Isid → Service
-service_with isid = record { isid = isid; transmit = true; receive = true }
+-- whether a member is in the service of an I-SID
+abbrev pub is_of_isid : Isid → Member → Bool
+is_of_isid isid m = m.isid.value == isid.value
+
+-- the service of an I-SID, as these members take part in it: T is set where one transmits, and R where one receives
+abbrev pub service_among : List Member → Isid → Service
+service_among ms isid = record {
+  isid = isid;
+  transmit = list_any (λ m. is_of_isid isid m && m.transmit) ms;
+  receive = list_any (λ m. is_of_isid isid m && m.receive) ms;
+}
+
+-- the services of some members in one base VID, each once
+abbrev pub services_among : List Member → List Service
+services_among ms = map (service_among ms) (isids_in ms)
 
 -- the services in a base VID
 abbrev pub services_in : Vid → List Member → List Service
-services_in vid attached = map service_with (isids_in (in_vid vid attached))
+services_in vid attached = services_among (in_vid vid attached)
 
 abbrev pub own_mac : Local → Mac
 own_mac l = l.config.id.system.mac

@@ -2,11 +2,12 @@
 -- (IEEE 802.1ah, 25.10).
 use Rattle.std.specs.Prelude.{ℕ, List, ◌∷◌, ◌++◌, length, map, filter, Bool, not, ◌&&◌, ◌==◌, nat_le, nat_lt, Option, is_some}
 use Rattle.std.specs.List.{AllByRecursion, list_any}
+use Rattle.spb_types.specs.Service.{sends}
 use Rattle.spb_types.specs.declared.limits.TheConstants.{MOST_CUSTOMER_PORTS, MOST_ISIDS}
 use Rattle.spb_types.specs.declared.service.Attachment.{Attachment}
 use Rattle.bridge_api.specs.Config.{different}
 use Rattle.spb_world.specs.declared.reason.Reason.{Reason}
-use Rattle.spb_world.specs.declared.reason.Reason.TheVariants.{NoSuchName, Range, TooMany, Attached, NotAttached}
+use Rattle.spb_world.specs.declared.reason.Reason.TheVariants.{NoSuchName, Range, TooMany, Attached, NotAttached, ReceiveOnly}
 use Rattle.spb_world.specs.Reason.{reason_unless, ◌or◌}
 use Rattle.spb_world.specs.World.{World, Services, Attachments, vid_of_isid, attached_at, IsAttachedIn, AreAtTwoPorts}
 
@@ -55,10 +56,15 @@ unfoldable pub detach_refusal : World → ℕ → ℕ → Option Reason
 detach_refusal w i port = reason_unless (is_customer_port port) Range
     or reason_unless (is_attached w.attached i port) NotAttached
 
+-- whether what is attached at a customer port of the bridge at place i sends
+abbrev pub is_sending : Attachments → ℕ → ℕ → Bool
+is_sending xs i port = list_any (λ x. (x.0 == i) && ((x.1.port == port) && sends x.1.mode)) xs
+
 -- a customer's frame can't enter at a customer port of the bridge at place i
 unfoldable pub entry_refusal : World → ℕ → ℕ → List ℕ → Option Reason
 entry_refusal w i port bytes = reason_unless (is_customer_port port && is_customer_frame bytes) Range
     or reason_unless (is_attached w.attached i port) NotAttached
+    or reason_unless (is_sending w.attached i port) ReceiveOnly
 
 -- ---- what an accepted command makes
 

@@ -2,7 +2,7 @@
 use Rattle.std.specs.Prelude.{ℕ, List, Option, Some, None, Bool, if◌then◌else◌, codes}
 use Rattle.std.specs.Option.{option_or}
 use Rattle.spb_world.specs.declared.reason.Reason.{Reason}
-use Rattle.spb_world.specs.declared.reason.Reason.TheVariants.{NoSuchName, NameTaken, IdTaken, PortUse, Range, TooMany, AlreadyLinked, AlreadyUp, AlreadyDown, Attached, NotAttached, NoFrame, RackSpent, TooLate}
+use Rattle.spb_world.specs.declared.reason.Reason.TheVariants.{NoSuchName, NameTaken, IdTaken, PortUse, Range, TooMany, AlreadyLinked, AlreadyUp, AlreadyDown, Attached, NotAttached, NoFrame, RackSpent, TooLate, ReceiveOnly}
 
 -- the number of a reason: reasons are tested in this order
 abbrev pub reason_number : Reason → ℕ
@@ -20,6 +20,7 @@ reason_number NotAttached = 10
 reason_number NoFrame = 11
 reason_number RackSpent = 12
 reason_number TooLate = 13
+reason_number ReceiveOnly = 14
 
 -- how a reason is written
 abbrev pub name_of : Reason → List ℕ
@@ -37,6 +38,7 @@ name_of NotAttached = codes "NotAttached"
 name_of NoFrame = codes "NoFrame"
 name_of RackSpent = codes "RackSpent"
 name_of TooLate = codes "TooLate"
+name_of ReceiveOnly = codes "ReceiveOnly"
 
 -- the reason, where the test fails
 unfoldable pub reason_unless : Bool → Reason → Option Reason

@@ -1,9 +1,8 @@
-use Rattle.std.specs.Prelude.{◌≡◌, ◌≢◌, ℕ, zero, suc, ◌+◌, ◌*◌, ◌≤◌, ◌<◌, List, [], ◌∷◌, ◌++◌, length, map, Bool, false, ◌&&◌, ◌||◌, ◌==◌, replicate, Option, Some, None, find, position, max, if◌then◌else◌, nat_eq, IsTrue, ⊤}
-use Rattle.std.specs.List.{AllByRecursion, filter_map, list_any}
+use Rattle.std.specs.Prelude.{◌≡◌, ◌≢◌, ℕ, zero, suc, ◌+◌, ◌≤◌, ◌<◌, List, [], ◌∷◌, ◌++◌, length, map, Bool, false, ◌&&◌, ◌||◌, ◌==◌, replicate, Option, Some, None, find, position, flat_map, max, if◌then◌else◌, nat_eq, IsTrue, ⊤}
+use Rattle.std.specs.List.{AllByRecursion, filter_map, list_any, range_with_len}
 use Rattle.std.specs.Map.{lookup}
 use Rattle.std.specs.Option.{option_map}
 use Rattle.std.specs.Str.{bytes_eq}
-use Rattle.spb_types.specs.Ascending.{ascending}
 use Rattle.spb_types.specs.Graph.{IsDistinct, systems_of}
 use Rattle.spb_types.specs.declared.address.SystemId.{SystemId}
 use Rattle.spb_types.specs.declared.graph.Edge.{Edge}
@@ -15,6 +14,7 @@ use Rattle.spb_types.specs.declared.service.Isid.{Isid}
 use Rattle.spb_types.specs.declared.service.Vid.{Vid}
 use Rattle.spb_types.specs.declared.service.VidPlan.{VidPlan}
 use Rattle.spb_tlvs.specs.Capability.{IsTree}
+use Rattle.spb_content.specs.Members.{merged}
 use Rattle.bridge_api.specs.Config.{ArePairwise, vids_of}
 use Rattle.bridge_api.specs.Own.{member_of}
 use Rattle.spb_world.specs.declared.declaration.DeclaredBridge.{DeclaredBridge}
@@ -117,19 +117,18 @@ edge_of bridges l = record {
 abbrev pub live_edge : Bridges → DeclaredLink → Option Edge
 live_edge bridges l = if l.live then Some (edge_of bridges l) else None
 
--- the member of a service that an attachment makes its bridge
-abbrev pub member_at : Bridges → ℕ × Attachment → Member
-member_at bridges x = member_of (system_at bridges x.0) x.1
+-- the members that what is attached at a bridge makes it: one for each base VID and I-SID, in ascending order of these,
+-- which transmits where one of the ports sends, and receives where one of them does
+abbrev pub bridge_members : SystemId → List Attachment → List Member
+bridge_members system attached = merged system (map (member_of system) attached)
 
--- the place of the bridge that something is attached to, the base VID and the I-SID in one number, by which they order
--- in turn: a base VID is below 65,536, and an I-SID below 16,777,216
-abbrev pub service_number : ℕ × Attachment → ℕ
-service_number x = (x.0 * 65536 + x.1.vid.value) * 16777216 + x.1.isid.value
+-- those of the bridge at a place
+abbrev pub members_at : World → ℕ → List Member
+members_at w i = bridge_members (system_at w.bridges i) (attached_at w i)
 
--- the members of services: one for each bridge, base VID and I-SID, in ascending order of the bridge's place, the base
--- VID and the I-SID
+-- the members of services, bridge by bridge in order of declaration
 abbrev pub world_members : World → List Member
-world_members w = map (member_at w.bridges) (ascending service_number w.attached)
+world_members w = flat_map (members_at w) (range_with_len 0 (length w.bridges))
 
 -- the actual wiring: all bridges, an edge for each link that is up, and a member for each bridge and service that a
 -- customer port of the bridge is attached to

@@ -36,10 +36,12 @@ pub enum Reason {
     RackSpent,
     /// A bridge is declared already.
     TooLate,
+    /// The customer port is attached and only receives.
+    ReceiveOnly,
 }
 
 impl Reason {
-    /// The number of the reason, 2 to 13.
+    /// The number of the reason, 2 to 14.
     pub fn number(&self) -> u8
         ensures { result ≡ reasons.reason_number self.now }
     {
@@ -56,6 +58,7 @@ impl Reason {
             Reason::NoFrame => 11,
             Reason::RackSpent => 12,
             Reason::TooLate => 13,
+            Reason::ReceiveOnly => 14,
         }
     }
 
@@ -78,6 +81,7 @@ impl Reason {
             Reason::NoFrame => "NoFrame",
             Reason::RackSpent => "RackSpent",
             Reason::TooLate => "TooLate",
+            Reason::ReceiveOnly => "ReceiveOnly",
         }
     }
 }
