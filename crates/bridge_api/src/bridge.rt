@@ -4,7 +4,7 @@ use crate::kind::Kind;
 use crate::outbox::Outbox;
 use adjacency::Adjacency;
 use lsdb::Held;
-use spb_types::{DropReason, Isid, Mac, NoMemory, Path, PortSet, SystemId, Tables, Vid};
+use spb_types::{DropReason, Isid, Mac, Mode, NoMemory, Path, PortSet, SystemId, Tables, Vid};
 
 /// A bridge of the backbone, with its IS-IS control.
 ///
@@ -24,7 +24,7 @@ pub trait Bridge: Drop {
     ghost use Rattle.bridge_api.specs.Config.{IsWhole, IsMetric, configured};
     ghost use Rattle.bridge_api.specs.Customers.{IsCustomerFrame, after_entry, moved_by_entry, moved_by_receive};
     ghost use Rattle.bridge_api.specs.Hearing.{after_receive, with_carrier, with_metric};
-    ghost use Rattle.bridge_api.specs.Services.{IsAttachedPort, CanAttach, attachment_of, with_attachment, without_attachment};
+    ghost use Rattle.bridge_api.specs.Services.{IsAttachedPort, IsSendingPort, CanAttach, attachment_of, with_attachment, without_attachment};
     ghost use Rattle.bridge_api.specs.Ticking.{after_tick, sent_in_tick};
     ghost use Rattle.bridge_api.specs.Step.{with_wire, with_moved, Gains, GainsMoved};
     ghost use Rattle.bridge_api.specs.Graph.{own_tables, own_path};
@@ -80,7 +80,8 @@ pub trait Bridge: Drop {
     /// bridge originates if it has something else to say.
     ///
     /// A backbone frame that comes by the port that leads to its source is relayed and delivered by the bridge's
-    /// tables, and where it is delivered the bridge learns its customer's source (IEEE 802.1ah, 25; IEEE 802.1aq).
+    /// tables, at customer ports that receive, and where it is delivered the bridge learns its customer's source
+    /// (IEEE 802.1ah, 25; IEEE 802.1aq).
     fn receive(&mut self, port: u8, frame: &[u8], outbox: &mut Outbox) -> Result<(), NoMemory>
         requires made { (shown self.old).blank ≡ false }
         requires port { (shown self.old).view.failed ≡ false → IsPort (shown self.old).view port }
@@ -95,14 +96,15 @@ pub trait Bridge: Drop {
         ensures still_made { (shown self.new).blank ≡ false }
         ensures kind { (shown self.new).kind ≡ (shown self.old).kind };
 
-    /// A customer's frame, of 14 to 2,000 bytes, enters at a customer port that is attached. The bridge learns where
-    /// its source is, if that is an individual address, and then sends it on towards its destination: at another
+    /// A customer's frame, of 14 to 2,000 bytes, enters at a customer port that is attached and sends. The bridge learns
+    /// where its source is, if that is an individual address, and then sends it on towards its destination: at another
     /// customer port, in a backbone frame to another bridge, or, where the destination is a group address or isn't
     /// known, at all other ports of its I-SID and to the group address of the own source and the I-SID (IEEE 802.1Q,
-    /// 8.6 to 8.8; IEEE 802.1ah, 25). Where no port leads to the other bridge it is dropped, and counted as `NoWay`.
+    /// 8.6 to 8.8; IEEE 802.1ah, 25). It leaves at no port that only sends. Where no port leads to the other bridge it
+    /// is dropped, and counted as `NoWay`.
     fn customer(&mut self, port: u16, frame: &[u8], outbox: &mut Outbox) -> Result<(), NoMemory>
         requires made { (shown self.old).blank ≡ false }
-        requires attached { (shown self.old).view.failed ≡ false → IsAttachedPort (shown self.old).view port }
+        requires sending { (shown self.old).view.failed ≡ false → IsSendingPort (shown self.old).view port }
         requires frame { IsCustomerFrame frame.now }
         ensures view { OnOk result ((shown self.new).view ≡ after_entry port frame.now (shown self.old).view) }
         ensures sent { OnOk result
@@ -140,16 +142,16 @@ pub trait Bridge: Drop {
         ensures still_made { (shown self.new).blank ≡ false }
         ensures kind { (shown self.new).kind ≡ (shown self.old).kind };
 
-    /// Attaches a customer port to a service, an I-SID in a base VID (IEEE 802.1ah, 25.10). The port is free and 1 to
-    /// 1,024; the I-SID is 1 to 16,777,215; the VID is one of the bridge, and that of the other ports of the I-SID; and
-    /// there are at most 960 I-SIDs afterwards. The bridge originates each of its own LSPs in which it has something
-    /// else to say.
-    fn attach(&mut self, port: u16, isid: Isid, vid: Vid) -> Result<(), NoMemory>
+    /// Attaches a customer port to a service, an I-SID in a base VID (IEEE 802.1ah, 25.10), in which it sends, receives,
+    /// or does both. The port is free and 1 to 1,024; the I-SID is 1 to 16,777,215; the VID is one of the bridge, and
+    /// that of the other ports of the I-SID; and there are at most 960 I-SIDs afterwards. The bridge originates each of
+    /// its own LSPs in which it has something else to say.
+    fn attach(&mut self, port: u16, isid: Isid, vid: Vid, mode: Mode) -> Result<(), NoMemory>
         requires made { (shown self.old).blank ≡ false }
         requires can { (shown self.old).view.failed ≡ false →
-            CanAttach (shown self.old).view (attachment_of port isid vid) }
+            CanAttach (shown self.old).view (attachment_of port isid vid mode) }
         ensures view { OnOk result
-            ((shown self.new).view ≡ with_attachment (attachment_of port isid vid) (shown self.old).view) }
+            ((shown self.new).view ≡ with_attachment (attachment_of port isid vid mode) (shown self.old).view) }
         ensures memory { OnErr result ((shown self.new).view.failed ≡ true) }
         ensures failed { (shown self.old).view.failed ≡ true →
             IsErr result × ((shown self.new).view ≡ (shown self.old).view) }
@@ -199,8 +201,8 @@ pub trait Bridge: Drop {
 
     /// The tables of the bridge over the LSPs that it holds, by ascending VID and address (IEEE 802.1aq, 8.8 and 28.10):
     /// for each of its base VIDs and each other bridge that it reaches, the port towards that bridge; and for each group
-    /// address of a source of a service, the ports by which it sends on towards the service's other members. It answers
-    /// `NoMemory` where it finds none, and where the bridge is failed.
+    /// address of a member that sends to a service, the ports by which it sends on towards the other members that
+    /// receive. It answers `NoMemory` where it finds none, and where the bridge is failed.
     fn tables(&self) -> Result<Tables, NoMemory>
         requires { (shown self.now).blank ≡ false }
         ensures tables { IfOk result (λ t. t ≡ own_tables (shown self.now).view) }
@@ -286,8 +288,8 @@ impl Bridge for Box<dyn Bridge> {
         (**self).set_metric(port, metric)
     }
 
-    fn attach(&mut self, port: u16, isid: Isid, vid: Vid) -> Result<(), NoMemory> {
-        (**self).attach(port, isid, vid)
+    fn attach(&mut self, port: u16, isid: Isid, vid: Vid, mode: Mode) -> Result<(), NoMemory> {
+        (**self).attach(port, isid, vid, mode)
     }
 
     fn detach(&mut self, port: u16) -> Result<(), NoMemory> {
