@@ -121,8 +121,13 @@ def _hint(place: str, word: str) -> str:
 # Names
 
 
+def _places(line: Line) -> List[Tuple[int, str]]:
+    """The places of a line, each with the number of its word."""
+    return list(zip(range(1, len(line.words)), language.FORMS[line.keyword]))
+
+
 def _no_such_name(line: Line, before: World) -> Finding:
-    for index, place in enumerate(language.FORMS[line.keyword], 1):
+    for index, place in _places(line):
         word = line.words[index]
         finding = _missing(line.keyword, place, word, before)
         if finding is not None:
@@ -218,7 +223,7 @@ _RANGES: Dict[Tuple[str, str], Tuple[int, int]] = {
 
 
 def _range(line: Line, before: World) -> Finding:
-    places = list(enumerate(language.FORMS[line.keyword], 1))
+    places = _places(line)
     for index, place in places:
         bounds = _RANGES.get((line.keyword, place))
         if bounds and not bounds[0] <= int(line.words[index]) <= bounds[1]:
@@ -291,6 +296,11 @@ def _attached(line: Line, before: World) -> Finding:
     return Finding(2, f"customer port {int(line.words[2])} of {line.words[1]} is attached to the service {isid}", since)
 
 
+def _receive_only(line: Line, before: World) -> Finding:
+    isid, since = before.attached[line.words[1], int(line.words[2])]
+    return Finding(2, f"customer port {int(line.words[2])} of {line.words[1]} only receives in the service {isid}", since)
+
+
 def _not_attached(line: Line, before: World) -> Finding:
     own = sorted(port for bridge, port in before.attached if bridge == line.words[1])
     return Finding(
@@ -328,6 +338,7 @@ _FINDERS: Dict[str, Callable[[Line, World], Finding]] = {
     "AlreadyDown": _already,
     "Attached": _attached,
     "NotAttached": _not_attached,
+    "ReceiveOnly": _receive_only,
     "NoFrame": _no_frame,
     "RackSpent": _rack_spent,
     "TooLate": _too_late,

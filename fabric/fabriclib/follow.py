@@ -130,7 +130,8 @@ class Fabric:
         """Where a group frame that enters at a bridge goes, row by row."""
         tree = Tree(source, isid, vid)
         key, to_source = self.group_key(vid, source, isid), self.unicast_key(vid, source)
-        members = self.world.members(isid)
+        receivers = self.world.receivers(isid)
+        others = [bridge for bridge in receivers if bridge != source]
         waiting: List[Optional[Hop]] = [None]
         met = {source}
         while waiting:
@@ -138,7 +139,7 @@ class Fabric:
             here = source if came is None else came.head
             tree.reads.append((here, key))
             out = self._out(tree, here, came, self.tables[here].get(key, b""))
-            if not out and (here not in members or (came is None and len(members) > 1)):
+            if not out and (others if came is None else here not in receivers):
                 tree.faults.append(Fault(here, came.link if came else None, VANISHED))
             for hop in out:
                 tree.hops.append(hop)
@@ -149,8 +150,8 @@ class Fabric:
                 else:
                     met.add(hop.head)
                     waiting.append(hop)
-        tree.reached = {bridge for bridge in members if bridge in met and bridge != source}
-        tree.missed = tuple(bridge for bridge in members if bridge not in met)
+        tree.reached = {bridge for bridge in others if bridge in met}
+        tree.missed = tuple(bridge for bridge in others if bridge not in met)
         return tree
 
     def _out(self, tree: Tree, here: str, came: Optional[Hop], ports: bytes) -> List[Hop]:

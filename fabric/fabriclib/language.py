@@ -10,7 +10,7 @@ FORMS: Dict[str, Tuple[str, ...]] = {
     "bridge": ("N", "PRIO", "SYSID", "SRC", "PORTS"),
     "link": ("L", "A", "PA", "B", "PB", "COST"),
     "isid": ("I", "V"),
-    "attach": ("B", "P", "I"),
+    "attach": ("B", "P", "I", "MODE"),
     "detach": ("B", "P"),
     "metric": ("L", "END", "M"),
     "down": ("L",),
@@ -31,6 +31,10 @@ FORMS: Dict[str, Tuple[str, ...]] = {
     "path": ("A", "B", "V"),
     "drops": ("B",),
 }
+
+# A place that a line may leave out, with what it then has.
+LEFT_OUT = {"MODE": "both"}
+MODES = ("both", "send", "recv")
 
 DECLARATIONS = ("vid", "bridge", "link", "isid", "attach", "detach")
 QUESTIONS = ("state", "show", "wiring", "db", "adj", "path", "drops")
@@ -61,8 +65,14 @@ LIMITS = {
 
 def form(keyword: str) -> str:
     """The form of a keyword's line, as docs/SCRIPT.md writes it."""
-    places = ("N" if place == "COUNT" else place for place in FORMS[keyword])
+    places = ("N" if place == "COUNT" else f"[{place}]" if place in LEFT_OUT else place for place in FORMS[keyword])
     return " ".join((keyword, *places))
+
+
+def is_whole(words: Tuple[str, ...]) -> bool:
+    """Whether a line of a keyword has a word for each place that can't be left out, and no more words than places."""
+    places = FORMS[words[0]]
+    return len([place for place in places if place not in LEFT_OUT]) < len(words) <= 1 + len(places)
 
 
 def takes(place: str) -> str:
@@ -75,6 +85,7 @@ def takes(place: str) -> str:
         "HEX": "bytes: 2 hexadecimal digits for each",
         "DIR": "a direction: ab or ba",
         "END": "an end of a link: a or b",
+        "MODE": "a mode: both, send or recv",
     }.get(place, "a number: 1 to 10 decimal digits")
 
 
@@ -88,6 +99,8 @@ def fits(place: str, word: str) -> bool:
         return word in ("ab", "ba")
     if place == "END":
         return word in ("a", "b")
+    if place == "MODE":
+        return word in MODES
     return NUMBER.match(word) is not None
 
 

@@ -75,15 +75,24 @@ class World:
     links: Dict[str, Link] = field(default_factory=dict)
     isids: Dict[int, Tuple[int, int]] = field(default_factory=dict)
     attached: Dict[Tuple[str, int], Tuple[int, int]] = field(default_factory=dict)
+    modes: Dict[Tuple[str, int], str] = field(default_factory=dict)
     at_port: Dict[Tuple[str, int], Link] = field(default_factory=dict)
     usual_metric: Dict[Tuple[str, str], int] = field(default_factory=dict)
     seconds: int = 0
     boxes: int = 0
 
-    def members(self, isid: int) -> List[str]:
-        """The bridges that have a customer port of a service, in order of declaration."""
-        have = {bridge for (bridge, _), (service, _) in self.attached.items() if service == isid}
+    def members(self, isid: int, but: str = "") -> List[str]:
+        """The bridges that have a customer port of a service, of another mode than `but`, in order of declaration."""
+        have = {at[0] for at, (service, _) in self.attached.items() if service == isid and self.modes[at] != but}
         return [name for name in self.bridges if name in have]
+
+    def senders(self, isid: int) -> List[str]:
+        """The bridges that have a customer port of a service that sends."""
+        return self.members(isid, but="recv")
+
+    def receivers(self, isid: int) -> List[str]:
+        """The bridges that have a customer port of a service that receives."""
+        return self.members(isid, but="send")
 
     def edges(self) -> List[str]:
         """The bridges that have a customer port; all bridges where none has."""
@@ -101,7 +110,7 @@ class World:
     def apply(self, line: Line) -> None:
         """Changes what is declared by a line that the program accepts."""
         act = getattr(self, f"_{line.keyword}", None)
-        if act is not None and len(line.words) == 1 + len(language.FORMS[line.keyword]):
+        if act is not None and language.is_whole(line.words):
             try:
                 act(line.number, *line.words[1:])
             except (KeyError, ValueError):
@@ -123,11 +132,13 @@ class World:
     def _isid(self, number: int, isid: str, vid: str) -> None:
         self.isids[int(isid)] = (int(vid), number)
 
-    def _attach(self, number: int, bridge: str, port: str, isid: str) -> None:
+    def _attach(self, number: int, bridge: str, port: str, isid: str, mode: str = language.LEFT_OUT["MODE"]) -> None:
         self.attached[bridge, int(port)] = (int(isid), number)
+        self.modes[bridge, int(port)] = mode
 
     def _detach(self, _number: int, bridge: str, port: str) -> None:
         del self.attached[bridge, int(port)]
+        del self.modes[bridge, int(port)]
 
     def _metric(self, _number: int, link: str, end: str, metric: str) -> None:
         self.links[link].metric[end] = int(metric)

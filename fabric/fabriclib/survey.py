@@ -27,8 +27,8 @@ def way_keys(world: World) -> List[WayKey]:
 
 
 def tree_keys(world: World) -> List[TreeKey]:
-    """Each tree that a fabric is asked for: of each service from each of its members."""
-    return [(bridge, isid, vid) for isid, (vid, _) in world.isids.items() for bridge in world.members(isid)]
+    """Each tree that a fabric is asked for: of each service from each of its members that sends."""
+    return [(bridge, isid, vid) for isid, (vid, _) in world.isids.items() for bridge in world.senders(isid)]
 
 
 @dataclass

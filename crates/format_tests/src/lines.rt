@@ -15,8 +15,11 @@ link L A 1 B 2 10|Link { name: L, a: A, port_a: 1, b: B, port_b: 2, cost: 10 }
 link link vid 001\t\tvid 002 16777214\t|Link { name: link, a: vid, port_a: 1, b: vid, port_b: 2, cost: 16777214 }
 isid 1000 10|Isid { isid: 1000, vid: 10 }
 isid\t0016777215 \t4094|Isid { isid: 16777215, vid: 4094 }
-attach A 1 1000|Attach { bridge: A, port: 1, isid: 1000 }
-  attach  B1 064 0000000001  |Attach { bridge: B1, port: 64, isid: 1 }
+attach A 1 1000|Attach { bridge: A, port: 1, isid: 1000, mode: Both }
+  attach  B1 064 0000000001  |Attach { bridge: B1, port: 64, isid: 1, mode: Both }
+attach A 1 1000 both|Attach { bridge: A, port: 1, isid: 1000, mode: Both }
+attach A 1 1000 send|Attach { bridge: A, port: 1, isid: 1000, mode: Send }
+\tattach  recv 064\t0000000001 \trecv  |Attach { bridge: recv, port: 64, isid: 1, mode: Recv }
 detach A 1|Detach { bridge: A, port: 1 }
 detach\tA\t01\t|Detach { bridge: A, port: 1 }
 metric L a 5|Metric { link: L, side: A, metric: 5 }
@@ -66,6 +69,9 @@ bridge A 0 000000000000 00000 00|bridge A 0 000000000000 00000 0
 link link vid 001\t\tvid 002 16777214\t|link link vid 1 vid 2 16777214
 isid\t0016777215 \t4094|isid 16777215 4094
   attach  B1 064 0000000001  |attach B1 64 1
+attach B1 064 01  both\t|attach B1 64 1
+attach B1 064 01\tsend|attach B1 64 1 send
+ attach recv 064 01 recv |attach recv 64 1 recv
 detach\tA\t01\t|detach A 1
 metric   L\tb 0005 |metric L b 5
 metric L a 0000000000|metric L a 0
@@ -124,11 +130,20 @@ const REFUSED_FORMS: &str = "\
 12|attach A 7 x
 11|attach A 7
 14|attach A 7 7 x
+16|attach A 2 100 r
+16|attach A 2 100 Send
+16|attach A 2 100 sends
+16|attach A 2 100 bot
+16|attach A 2 100 RECV
+21|attach A 2 100 send x
+21|attach A 2 100 both send
+11|attach A 2
 1|ATTACH
 8|detach 9 7
 10|detach A x
 9|detach A
 12|detach A 7 x
+12|detach A 1 send
 1|DETACH
 8|metric 9 a 7
 10|metric A c 7

@@ -4,9 +4,12 @@ use crate::fixtures::{are_bytes, lsp_id, system};
 use adjacency::{AdjState, Adjacency};
 use lsdb::{DbRow, Version};
 use report::{
-    adj_text, db_text, drops_text, error_text, out_text, path_text, state_text, tables_text,
+    adj_text, check_no_text, check_yes_text, db_text, drops_text, error_text, out_text, path_text,
+    proof_text, state_text, tables_text, whatif_text,
 };
-use spb_types::{GroupRow, Mac, Name, NoMemory, PortSet, Seq, Tables, UnicastRow, Vid};
+use spb_types::{
+    EntryWord, GroupRow, Mac, Name, NoMemory, PortSet, Seq, TableRow, Tables, UnicastRow, Vid,
+};
 use std::alloc::Global;
 use std::process::Abort;
 
@@ -187,6 +190,39 @@ fn a_path_is_cost_hops_and_names_or_none(rt: HostRuntime) {
     check(&rt, text, "path A A 10 0 0 A\n");
     let text = path_text(alloc, a, d, VID, 0, &[]);
     check(&rt, text, "path A D 10 none\n");
+}
+
+#[test]
+fn changes_are_signs_names_and_rows(rt: HostRuntime) {
+    let (a, b) = (name(&rt, "A"), name(&rt, "B"));
+    let unicast = TableRow::Unicast(unicast(2, 1));
+    let group = TableRow::Group(group([3, 0, 1, 0, 0, 100], 0b11));
+    let text = whatif_text(
+        rt.alloc(),
+        &[(a, false, unicast), (a, false, group), (b, true, group)],
+    );
+    check(
+        &rt,
+        text,
+        "whatif 3\n\
+        - A u 10 020000000002 1\n\
+        - A g 10 030001000064 1,2\n\
+        + B g 10 030001000064 1,2\n",
+    );
+    check(&rt, whatif_text(rt.alloc(), &[]), "whatif 0\n");
+}
+
+#[test]
+fn a_proof_is_entries_and_its_check_yes_or_no(rt: HostRuntime) {
+    let alloc = rt.alloc();
+    let (a, b, d) = (name(&rt, "A"), name(&rt, "B"), name(&rt, "D"));
+    let entries = [EntryWord::Start, EntryWord::Before(a), EntryWord::Unreached];
+    let text = proof_text(alloc, a, d, VID, &entries);
+    check(&rt, text, "proof A D 10 - A .\n");
+    let text = check_yes_text(alloc, 20, &[a, b, d]);
+    check(&rt, text, "check yes 20 2 A B D\n");
+    check(&rt, check_yes_text(alloc, 0, &[]), "check yes none\n");
+    check(&rt, check_no_text(alloc, 4), "check no 4\n");
 }
 
 #[test]

@@ -1,9 +1,10 @@
--- Service instances don't mix.
-use Rattle.std.proofs.Common.{◌≡◌, ◌≢◌, ℕ, Bool, true, false, cond, eqb, List, [], ◌∷◌, inl, inr, Option, Some, None, refl, sym, ap, subst, ◌∙◌, if◌then◌else◌}
+-- Service instances don't mix, and frames leave where they are received.
+use Rattle.std.proofs.Common.{◌≡◌, ◌≢◌, ℕ, Bool, true, false, not, ◌&&◌, cond, eqb, List, [], ◌∷◌, inl, inr, Option, Some, None, refl, sym, ap, subst, ◌∙◌, if◌then◌else◌}
 use Rattle.std.specs.List.{AllByRecursion}
 use Rattle.std.proofs.lemmas.Bool.{false≢true}
 use Rattle.std.proofs.Common.{eqb-true, eq-eqb, ltb}
 use Rattle.spb_types.specs.Ascending.{placed}
+use Rattle.spb_types.specs.Service.{receives}
 use Rattle.spb_types.specs.Tables.{unicast_in, group_in}
 use Rattle.spb_types.specs.declared.address.Mac.{Mac}
 use Rattle.spb_types.specs.declared.service.Attachment.{Attachment}
@@ -16,9 +17,12 @@ use Rattle.customer_learning.specs.declared.place.Place.TheVariants.{Local, Remo
 use Rattle.forwarding.specs.declared.going.Going.{Going}
 use Rattle.forwarding.specs.declared.going.Going.TheVariants.{Everywhere, AtPort, Behind}
 use Rattle.forwarding.specs.declared.tenant.Tenant.{Tenant}
-use Rattle.forwarding.specs.Ports.{attachment_of, but_for, is_in, is_way, ports_in, ports_of}
-use Rattle.forwarding.specs.Tenant.{Carried, after_backbone, after_customer, delivered_going, each_with, entered_by, entered_going, going_by, going_of, group_of_service, is_group, is_received, sent_to, sent_towards, to_of}
+use Rattle.forwarding.specs.Ports.{attachment_of, but_for, is_in, is_mute, is_way, ports_in, receives_in, receiving_ports}
+use Rattle.forwarding.specs.Tenant.{Carried, after_backbone, after_customer, after_delivery, delivered, delivered_going, each_with, entered, entered_by, entered_going, going_by, going_of, group_of_service, is_group, is_received, left_of, of_customer, sent_to, sent_towards, to_of, unless_mute}
 use Rattle.forwarding.specs.Laws.{IsAttachedTo, HasPlaces, LeavesInItsService, SentInItsService, DeliveredInItsService, IngressFailureChangesNothing}
+use Rattle.forwarding.specs.Placed.{AreAttachedOnce}
+use Rattle.forwarding.proofs.Places.{not_attached}
+use Rattle.forwarding.specs.Receiving.{IsReceivingTo, LeavesWhereItIsReceived, DeliveredWhereItIsReceived}
 
 all_placed : (P : ℕ → Type 0) (x : ℕ) (ys : List ℕ) → P x → AllByRecursion P ys → AllByRecursion P (placed (λ p. p) x ys)
 all_placed P x [] h all = (h, tt)
@@ -29,22 +33,36 @@ all_placed P x (y ∷ ys) h all = at (ltb x y) (eqb x y) (all_placed P x ys h al
     at false true r = all
     at false false r = (all.0, r)
 
-weaker : (P Q : ℕ → Type 0) (xs : List ℕ) → ((x : ℕ) → P x → Q x) → AllByRecursion P xs → AllByRecursion Q xs
+weaker : {X : Type 0} (P Q : X → Type 0) (xs : List X) → ((x : X) → P x → Q x) → AllByRecursion P xs → AllByRecursion Q xs
 weaker P Q [] k all = tt
 weaker P Q (x ∷ xs) k all = (k x all.0, weaker P Q xs k all.1)
 
 same_isid : (isid : Isid) (a : Attachment) → is_in isid a ≡ true → a.isid ≡ isid
 same_isid isid a h = let value : a.isid.value ≡ isid.value = eqb-true a.isid.value isid.value h in λ i. record { value = value i }
 
--- the ports of an I-SID are attached to it
-all_attached : (isid : Isid) (attached : List Attachment) → AllByRecursion (λ p. IsAttachedTo attached p isid) (ports_of isid attached)
-all_attached isid [] = tt
-all_attached isid (a ∷ attached) =
-    let rest = weaker (λ p. IsAttachedTo attached p isid) (λ p. IsAttachedTo (a ∷ attached) p isid) (ports_of isid attached) (λ p h. inr h) (all_attached isid attached) in
-    (elim (is_in isid a) as (λ b. is_in isid a ≡ b → AllByRecursion (λ p. IsAttachedTo (a ∷ attached) p isid) (ports_of isid (a ∷ attached))) [
-      | true ↦ λ h. rw h (all_placed (λ p. IsAttachedTo (a ∷ attached) p isid) a.port (ports_of isid attached) (inl (refl, same_isid isid a h)) rest)
+both_true : (b c : Bool) → (b && c) ≡ true → (b ≡ true) × (c ≡ true)
+both_true true true h = (refl, refl)
+both_true true false h = absurd (false≢true h)
+both_true false c h = absurd (false≢true h)
+
+-- the receiving ports of an I-SID are attached to it and receive
+all_receiving : (isid : Isid) (attached : List Attachment) → AllByRecursion (λ p. IsReceivingTo attached p isid) (receiving_ports isid attached)
+all_receiving isid [] = tt
+all_receiving isid (a ∷ attached) =
+    let rest = weaker (λ p. IsReceivingTo attached p isid) (λ p. IsReceivingTo (a ∷ attached) p isid) (receiving_ports isid attached) (λ p h. inr h) (all_receiving isid attached) in
+    (elim (receives_in isid a) as (λ b. receives_in isid a ≡ b → AllByRecursion (λ p. IsReceivingTo (a ∷ attached) p isid) (receiving_ports isid (a ∷ attached))) [
+      | true ↦ λ h. let both = both_true (is_in isid a) (receives a.mode) h in
+          rw h (all_placed (λ p. IsReceivingTo (a ∷ attached) p isid) a.port (receiving_ports isid attached) (inl (refl, same_isid isid a both.0, both.1)) rest)
       | false ↦ λ h. rw h rest
     ]) refl
+
+receiving_attached : (isid : Isid) (attached : List Attachment) (p : ℕ) → IsReceivingTo attached p isid → IsAttachedTo attached p isid
+receiving_attached isid [] p h = h
+receiving_attached isid (a ∷ attached) p (inl h) = inl (h.0, h.1)
+receiving_attached isid (a ∷ attached) p (inr h) = inr (receiving_attached isid attached p h)
+
+all_attached : (isid : Isid) (attached : List Attachment) → AllByRecursion (λ p. IsAttachedTo attached p isid) (receiving_ports isid attached)
+all_attached isid attached = weaker _ _ (receiving_ports isid attached) (receiving_attached isid attached) (all_receiving isid attached)
 
 -- ports but for one
 others : (P : ℕ → Type 0) (port : ℕ) (ps : List ℕ) → AllByRecursion P ps → AllByRecursion (λ p. P p × (p ≢ port)) (but_for port ps)
@@ -79,27 +97,76 @@ found_port port (b ∷ attached) a h = (elim (eqb b.port port) as (λ c. eqb b.p
   | false ↦ λ t. found_port port attached a (rw t at h)
 ]) refl
 
+-- a port, unless it doesn't receive
+unless_silent : (P : ℕ → Type 0) (t : Tenant) (q : ℕ) → (is_mute q t.attached ≡ false → P q) → AllByRecursion P (unless_mute t q)
+unless_silent P t q k = by (is_mute q t.attached) refl
+  where
+    by : (b : Bool) → is_mute q t.attached ≡ b → AllByRecursion P (if b then [] else q ∷ [])
+    by true h = tt
+    by false h = (k h, tt)
+
+not_false : (b : Bool) → not b ≡ false → b ≡ true
+not_false true h = refl
+not_false false h = absurd (false≢true (sym h))
+
+-- the first attachment at a port, that receives
+first_receives : (q : ℕ) (attached : List Attachment) (a : Attachment) → attachment_of q attached ≡ Some a → receives a.mode ≡ true → IsReceivingTo attached q a.isid
+first_receives q [] a h r = absurd cc
+first_receives q (b ∷ attached) a h r = (elim (eqb b.port q) as (λ c. eqb b.port q ≡ c → IsReceivingTo (b ∷ attached) q a.isid) [
+  | true ↦ λ t. let e = rw t at h in let same : b ≡ a = cc in inl (eqb-true b.port q t, ap (λ (x : Attachment). x.isid) same, subst (λ (x : Attachment). receives x.mode ≡ true) (sym same) r)
+  | false ↦ λ t. inr (first_receives q attached a (rw t at h) r)
+]) refl
+
+-- a port of an I-SID that isn't mute receives in it
+not_mute : (attached : List Attachment) (q : ℕ) (isid : Isid) → AreAttachedOnce attached → IsAttachedTo attached q isid → is_mute q attached ≡ false → IsReceivingTo attached q isid
+not_mute attached q isid once at quiet = by (attachment_of q attached) refl
+  where
+    by : (o : Option Attachment) → attachment_of q attached ≡ o → IsReceivingTo attached q isid
+    by None e = absurd (not_attached q attached e isid at)
+    by (Some a) e =
+        let r : not (receives a.mode) ≡ false = rw e at quiet in
+        let here = first_receives q attached a e (not_false (receives a.mode) r) in
+        subst (λ (i : Isid). IsReceivingTo attached q i) (once q a.isid isid (receiving_attached a.isid attached q here) at) here
+
 -- ---- a customer's frame
 
 towards_left : (Q : ℕ × List ℕ → Type 0) (t : Tenant) (a : Attachment) (frame : List ℕ) (m : Mac) (o : Option ℕ) → AllByRecursion Q (sent_towards t a frame m o).left
 towards_left Q t a frame m None = tt
 towards_left Q t a frame m (Some p) = tt
 
-leaves : (t : Tenant) (tables : Tables) (a : Attachment) (frame : List ℕ) (g : Going) → going_of t.learned a.isid (to_of frame) ≡ g → HasPlaces t
-    → AllByRecursion (λ s. IsAttachedTo t.attached s.0 a.isid × (s.0 ≢ a.port) × (s.1 ≡ frame)) (entered_going t tables a frame g).left
-leaves t tables a frame Everywhere e places =
-    copies (λ p. IsAttachedTo t.attached p a.isid × (p ≢ a.port)) _ frame (but_for a.port (ports_of a.isid t.attached)) (λ p h. (h.0, h.1, refl)) (others (λ p. IsAttachedTo t.attached p a.isid) a.port (ports_of a.isid t.attached) (all_attached a.isid t.attached))
-leaves t tables a frame (AtPort q) e places =
-    let here = places a.isid (to_of frame) q (going_place t.learned a.isid (to_of frame) q (is_group (to_of frame)) e) in
-    copies (λ p. IsAttachedTo t.attached p a.isid × (p ≢ a.port)) _ frame (but_for a.port (q ∷ [])) (λ p h. (h.0, h.1, refl)) (others (λ p. IsAttachedTo t.attached p a.isid) a.port (q ∷ []) (here, tt))
-leaves t tables a frame (Behind m) e places = towards_left _ t a frame m (unicast_in tables.unicast a.vid m)
+-- it leaves as it came, at other ports, all of which are as its receiving ports are and the one where it was learned
+leaves : (P : ℕ → Type 0) (t : Tenant) (tables : Tables) (a : Attachment) (frame : List ℕ) (g : Going) → AllByRecursion P (receiving_ports a.isid t.attached)
+    → ((q : ℕ) → g ≡ AtPort q → AllByRecursion P (unless_mute t q))
+    → AllByRecursion (λ s. P s.0 × (s.0 ≢ a.port) × (s.1 ≡ frame)) (entered_going t tables a frame g).left
+leaves P t tables a frame Everywhere all one =
+    copies (λ p. P p × (p ≢ a.port)) _ frame (but_for a.port (receiving_ports a.isid t.attached)) (λ p h. (h.0, h.1, refl)) (others P a.port (receiving_ports a.isid t.attached) all)
+leaves P t tables a frame (AtPort q) all one =
+    copies (λ p. P p × (p ≢ a.port)) _ frame (but_for a.port (unless_mute t q)) (λ p h. (h.0, h.1, refl)) (others P a.port (unless_mute t q) (one q refl))
+leaves P t tables a frame (Behind m) all one = towards_left _ t a frame m (unicast_in tables.unicast a.vid m)
+
+-- where it was learned is a port of its I-SID
+learned_there : (t : Tenant) (isid : Isid) (frame : List ℕ) (q : ℕ) → HasPlaces t → going_of t.learned isid (to_of frame) ≡ AtPort q → IsAttachedTo t.attached q isid
+learned_there t isid frame q places e = places isid (to_of frame) q (going_place t.learned isid (to_of frame) q (is_group (to_of frame)) e)
+
+-- what leaves of a frame that entered, by what was found at its port
+by_entry : (Q : ℕ × List ℕ → Type 0) (t : Tenant) (tables : Tables) (port : ℕ) (frame : List ℕ) (a : Attachment) → attachment_of port t.attached ≡ Some a
+    → AllByRecursion Q (entered (after_customer t port frame) tables a frame).left → AllByRecursion Q (of_customer t tables port frame).left
+by_entry Q t tables port frame a is all =
+    subst (λ (o : Option Attachment). AllByRecursion Q (entered_by (after_customer t port frame) tables frame o).left) (sym is) all
 
 pub leaves_in_its_service : LeavesInItsService
 leaves_in_its_service t tables port frame a is places =
     let after : Tenant = after_customer t port frame in
-    let all = leaves after tables a frame _ refl places in
-    let here = subst (λ (p : ℕ). AllByRecursion (λ s. IsAttachedTo t.attached s.0 a.isid × (s.0 ≢ p) × (s.1 ≡ frame)) (entered_going after tables a frame (going_of after.learned a.isid (to_of frame))).left) (found_port port t.attached a is) all in
-    subst (λ (o : Option Attachment). AllByRecursion (λ s. IsAttachedTo t.attached s.0 a.isid × (s.0 ≢ port) × (s.1 ≡ frame)) (entered_by after tables frame o).left) (sym is) here
+    let all = leaves (λ p. IsAttachedTo t.attached p a.isid) after tables a frame (going_of after.learned a.isid (to_of frame)) (all_attached a.isid t.attached)
+    (λ q e. unless_silent _ after q (λ quiet. learned_there after a.isid frame q places e)) in
+    by_entry _ t tables port frame a is (subst (λ (p : ℕ). AllByRecursion (λ s. IsAttachedTo t.attached s.0 a.isid × (s.0 ≢ p) × (s.1 ≡ frame)) (entered after tables a frame).left) (found_port port t.attached a is) all)
+
+pub leaves_where_it_is_received : LeavesWhereItIsReceived
+leaves_where_it_is_received t tables port frame a is once places =
+    let after : Tenant = after_customer t port frame in
+    let all = leaves (λ p. IsReceivingTo t.attached p a.isid) after tables a frame (going_of after.learned a.isid (to_of frame)) (all_receiving a.isid t.attached)
+    (λ q e. unless_silent _ after q (not_mute t.attached q a.isid once (learned_there after a.isid frame q places e))) in
+    by_entry _ t tables port frame a is (weaker _ (λ s. IsReceivingTo t.attached s.0 a.isid) (entered after tables a frame).left (λ s h. h.0) all)
 
 sent_all : (t : Tenant) (a : Attachment) (frame : List ℕ) (da : Mac) (ps : List ℕ) → AllByRecursion (λ s. (m : Mac) × (s.1 ≡ backbone_bytes m t.me a.vid a.isid frame)) (sent_to t a frame da ps)
 sent_all t a frame da ps = copies (λ p. Unit {0}) _ (backbone_bytes da t.me a.vid a.isid frame) ps (λ p h. (da, refl)) (always (λ p. Unit {0}) ps (λ p. tt))
@@ -120,20 +187,30 @@ sent_in_its_service t tables port frame a is =
 
 -- ---- a backbone frame
 
-delivers : (t : Tenant) (f : Carried) (g : Going) → going_of t.learned f.isid (to_of f.customer) ≡ g → HasPlaces t
-    → AllByRecursion (λ s. IsAttachedTo t.attached s.0 f.isid × (s.1 ≡ f.customer)) (delivered_going t f g)
-delivers t f Everywhere e places = copies (λ p. IsAttachedTo t.attached p f.isid) _ f.customer (ports_of f.isid t.attached) (λ p h. (h, refl)) (all_attached f.isid t.attached)
-delivers t f (AtPort q) e places = ((places f.isid (to_of f.customer) q (going_place t.learned f.isid (to_of f.customer) q (is_group (to_of f.customer)) e), refl), tt)
-delivers t f (Behind m) e places = tt
+delivers : (P : ℕ → Type 0) (t : Tenant) (f : Carried) (g : Going) → AllByRecursion P (receiving_ports f.isid t.attached)
+    → ((q : ℕ) → g ≡ AtPort q → AllByRecursion P (unless_mute t q))
+    → AllByRecursion (λ s. P s.0 × (s.1 ≡ f.customer)) (delivered_going t f g)
+delivers P t f Everywhere all one = copies P _ f.customer (receiving_ports f.isid t.attached) (λ p h. (h, refl)) all
+delivers P t f (AtPort q) all one = copies P _ f.customer (unless_mute t q) (λ p h. (h, refl)) (one q refl)
+delivers P t f (Behind m) all one = tt
+
+-- if it is taken up at all
+if_taken : (Q : ℕ × List ℕ → Type 0) (t : Tenant) (f : Carried) (taken : Bool) → AllByRecursion Q (delivered (after_delivery taken t f) f) → AllByRecursion Q (left_of taken t f)
+if_taken Q t f true all = all
+if_taken Q t f false all = tt
 
 pub delivered_in_its_service : DeliveredInItsService
 delivered_in_its_service t tables port f whole places =
-    by_taken (is_received t tables port f) (delivers (after_backbone t tables port f) f _ refl places)
-  where
-    by_taken : (b : Bool) → AllByRecursion (λ s. IsAttachedTo t.attached s.0 f.isid × (s.1 ≡ f.customer)) (delivered_going (after_backbone t tables port f) f (going_of (after_backbone t tables port f).learned f.isid (to_of f.customer)))
-        → AllByRecursion (λ s. IsAttachedTo t.attached s.0 f.isid × (s.1 ≡ f.customer)) (if b then delivered_going (after_backbone t tables port f) f (going_of (after_backbone t tables port f).learned f.isid (to_of f.customer)) else [])
-    by_taken true all = all
-    by_taken false all = tt
+    let after : Tenant = after_backbone t tables port f in
+    if_taken _ t f (is_received t tables port f) (delivers (λ p. IsAttachedTo t.attached p f.isid) after f (going_of after.learned f.isid (to_of f.customer)) (all_attached f.isid t.attached)
+    (λ q e. unless_silent _ after q (λ quiet. learned_there after f.isid f.customer q places e)))
+
+pub delivered_where_it_is_received : DeliveredWhereItIsReceived
+delivered_where_it_is_received t tables port f whole once places =
+    let after : Tenant = after_backbone t tables port f in
+    let all = delivers (λ p. IsReceivingTo t.attached p f.isid) after f (going_of after.learned f.isid (to_of f.customer)) (all_receiving f.isid t.attached)
+    (λ q e. unless_silent _ after q (not_mute t.attached q f.isid once (learned_there after f.isid f.customer q places e))) in
+    if_taken _ t f (is_received t tables port f) (weaker _ (λ s. IsReceivingTo t.attached s.0 f.isid) (delivered after f) (λ s h. h.0) all)
 
 no_way : (port : ℕ) (o : Option ℕ) → (o ≡ Some port → ⊥) → is_way port o ≡ false
 no_way port None h = refl

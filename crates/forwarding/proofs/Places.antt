@@ -178,7 +178,7 @@ gone port attached learned isid q placed apart =
     by_test false t = weaker (λ x. IsPlaceIn attached q x.1) (λ x. IsPlaceIn (without_customer_port port attached) q x.1) (known_in learned q) (λ x is. apart_still port attached q (apart t) x.1 is) (placed q)
 
 -- no port of this number
-not_attached : (port : ℕ) (attached : List Attachment) → attachment_of port attached ≡ None → (isid : Isid) → IsAttachedTo attached port isid → ⊥
+pub not_attached : (port : ℕ) (attached : List Attachment) → attachment_of port attached ≡ None → (isid : Isid) → IsAttachedTo attached port isid → ⊥
 not_attached port [] is isid at = at
 not_attached port (a ∷ attached) is isid at = by_test (eqb a.port port) refl at (λ (none : attachment_of port attached ≡ None). not_attached port attached none isid)
   where

@@ -1,6 +1,7 @@
 -- Ports at which frames enter and leave.
-use Rattle.std.specs.Prelude.{ℕ, List, map, filter, Bool, false, not, ◌&&◌, ◌==◌, Option, Some, None, find, option_map_or}
+use Rattle.std.specs.Prelude.{ℕ, List, map, filter, Bool, false, not, ◌&&◌, ◌==◌, Option, Some, None, find}
 use Rattle.std.specs.List.{range_with_len, list_any}
+use Rattle.std.specs.Option.{option_map_or}
 use Rattle.spb_types.specs.Ascending.{ascending}
 use Rattle.spb_types.specs.Ports.{has}
 use Rattle.spb_types.specs.Service.{receives}

@@ -5,7 +5,7 @@ ghost use Rattle.forwarding.specs.Tenant as spec;
 
 use crate::copies::{leaving, on_wire};
 use crate::going::{Going, going_of, learn_source};
-use crate::ports::{is_served, receiving_ports};
+use crate::ports::{is_mute, is_served, receiving_ports};
 use crate::step::{Step, step_of};
 use crate::{Moved, Tenant};
 use customer_learning::Place;
@@ -21,9 +21,10 @@ use std::alloc::Global;
 /// destination is the group address of another I-SID. One to the own address is delivered here. One to another bridge
 /// is relayed unchanged at the port towards it, or dropped as `NoWay` where there is none, or only the one at which it
 /// came. One to a group address is relayed unchanged at the address's other ports, and delivered here too. Where it is
-/// delivered and a port is attached to its I-SID in its VID, its customer's source is learned behind its source; the
-/// customer's frame then leaves where its destination is, or, where that is a group address or isn't known, at every
-/// port of the I-SID. After `NoMemory` the source may have been learned, and nothing else changed.
+/// delivered and a port is attached to its I-SID in its VID, even one that only sends, its customer's source is learned
+/// behind its source; the customer's frame then leaves where its destination is, or, where that is a group address or
+/// isn't known, at every port of the I-SID, in either case at ports that receive. After `NoMemory` the source may have
+/// been learned, and nothing else changed.
 pub fn from_backbone(
     alloc: Global,
     tenant: &mut Tenant,
@@ -94,6 +95,21 @@ fn received(
     delivered(alloc, tenant, frame)
 }
 
+// The customer's frame at a port, if that receives.
+fn at_port(
+    alloc: Global,
+    tenant: &Tenant,
+    port: u16,
+    customer: &[u8],
+) -> Result<Seq<(u16, Seq<u8>)>, NoMemory>
+    ensures { IfOk result (λ left. left ≡ spec.each_with customer.now (spec.unless_mute tenant.now port)) }
+{
+    if is_mute(port, tenant.attached.as_slice()) {
+        return Ok(Seq::new(alloc));
+    }
+    leaving(alloc, customer, &[port])
+}
+
 // The customer's frame at this bridge's ports, once its source is learned.
 fn delivered(
     alloc: Global,
@@ -108,7 +124,7 @@ fn delivered(
             let ports = receiving_ports(alloc, frame.isid, tenant.attached.as_slice())?;
             leaving(alloc, frame.customer, &ports)
         }
-        Going::AtPort(port) => leaving(alloc, frame.customer, &[port]),
+        Going::AtPort(port) => at_port(alloc, tenant, port, frame.customer),
         Going::Behind(_) => Ok(Seq::new(alloc)),
     }
 }

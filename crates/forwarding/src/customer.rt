@@ -6,7 +6,7 @@ ghost use Rattle.forwarding.specs.Tenant as spec;
 
 use crate::copies::{leaving, local_but_for, on_wire};
 use crate::going::{Going, going_of, learn_source};
-use crate::ports::{attachment_of, ports_in, receiving_ports};
+use crate::ports::{attachment_of, is_mute, ports_in, receiving_ports};
 use crate::{Moved, Tenant};
 use customer_learning::Place;
 use itag_frames::encapsulate;
@@ -21,9 +21,9 @@ use std::alloc::Global;
 ///
 /// An individual source address is learned at the port. Then the frame goes where its destination is: it leaves at
 /// another customer port, is sent to another bridge at the port towards it, or dropped as `NoWay` where there is none.
-/// One to a group address, or to an address that isn't known, leaves at each other port of the I-SID, and is sent to the
-/// group address of the own source and the I-SID. After `NoMemory` the source may have been learned, and nothing else
-/// changed.
+/// One to a group address, or to an address that isn't known, leaves at each other port of the I-SID that receives, and
+/// is sent to the group address of the own source and the I-SID. Nothing leaves at a port that only sends, and that
+/// counts as no drop. After `NoMemory` the source may have been learned, and nothing else changed.
 pub fn from_customer(
     alloc: Global,
     tenant: &mut Tenant,
@@ -64,7 +64,7 @@ fn entered(
 {
     match going_of(&tenant.learned, entry.isid, mac_in(frame, 0)) {
         Going::Everywhere => flooded(alloc, tenant, tables, entry, frame),
-        Going::AtPort(port) => crossing(alloc, entry, port, frame),
+        Going::AtPort(port) => crossing(alloc, tenant, entry, port, frame),
         Going::Behind(mac) => {
             let way = unicast_of(tables, entry.vid, mac);
             sent_towards(alloc, tenant, entry, frame, mac, way)
@@ -72,14 +72,20 @@ fn entered(
     }
 }
 
-// The frame leaves at another port of this bridge.
-fn crossing(alloc: Global, entry: Attachment, port: u16, frame: &[u8]) -> Result<Moved, NoMemory>
+// The frame leaves at another port of this bridge, if that receives.
+fn crossing(
+    alloc: Global,
+    tenant: &Tenant,
+    entry: Attachment,
+    port: u16,
+    frame: &[u8],
+) -> Result<Moved, NoMemory>
     ensures { IfOk result
         (λ moved. (moved.wire ≡ spec.nothing.wire)
-        × (moved.left ≡ spec.each_with frame.now (but_for entry.port (port ∷ [])))
+        × (moved.left ≡ spec.each_with frame.now (but_for entry.port (spec.unless_mute tenant.now port)))
         × (moved.dropped ≡ None)) }
 {
-    if port == entry.port {
+    if port == entry.port || is_mute(port, tenant.attached.as_slice()) {
         return Ok(Moved::nothing(alloc));
     }
     let left = leaving(alloc, frame, &[port])?;

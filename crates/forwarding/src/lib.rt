@@ -10,7 +10,8 @@ pub use backbone::from_backbone;
 pub use customer::from_customer;
 pub use detaching::{detach, without_customer_port};
 pub use laws::{
-    ingress_failure_changes_nothing, places_stay_in_their_service, services_stay_apart,
+    frames_leave_where_they_are_received, ingress_failure_changes_nothing,
+    places_stay_in_their_service, services_stay_apart,
 };
 pub use moved::Moved;
 pub use ports::is_served;

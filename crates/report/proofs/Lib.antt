@@ -3,5 +3,6 @@ pub mod PortText
 pub mod PortLines
 pub mod PortsListed
 pub mod Newlines
+pub mod CheckingLines
 pub mod LineCounts
 pub mod DecimalText

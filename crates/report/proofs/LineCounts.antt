@@ -24,12 +24,12 @@ use Rattle.report.specs.Laws.{LacksNewline, IsName, HasLines, TablesHaveLines, D
 use Rattle.report.proofs.Newlines.{newlines-append, append_lacks, spaced_lack, decimal_lacks, hex_lacks, name_lacks, ports_lack}
 
 -- words without LF, one list after another
-words-append : (xs ys : List (List ℕ)) → AllByRecursion LacksNewline xs → AllByRecursion LacksNewline ys → AllByRecursion LacksNewline (xs ++ ys)
+pub words-append : (xs ys : List (List ℕ)) → AllByRecursion LacksNewline xs → AllByRecursion LacksNewline ys → AllByRecursion LacksNewline (xs ++ ys)
 words-append [] ys f g = g
 words-append (x ∷ xs) ys f g = (f.0, words-append xs ys f.1 g)
 
 -- words without LF are one line
-is_line : (first : List ℕ) (words : List (List ℕ)) → LacksNewline first → AllByRecursion LacksNewline words → HasLines 1 (line first words)
+pub is_line : (first : List ℕ) (words : List (List ℕ)) → LacksNewline first → AllByRecursion LacksNewline words → HasLines 1 (line first words)
 is_line first words f g =
     let front = first ++ flat_map spaced words in
     record {
@@ -37,7 +37,7 @@ is_line first words f g =
       number = newlines-append front (codes "\n") ∙ ap (λ n. n + 1) (append_lacks first (flat_map spaced words) f (spaced_lack words g)) ∙ refl;
     }
 
-followed : (n : ℕ) (a b : List ℕ) → HasLines n a → HasLines 1 b → HasLines (n + 1) (a ++ b)
+pub followed : (n : ℕ) (a b : List ℕ) → HasLines n a → HasLines 1 b → HasLines (n + 1) (a ++ b)
 followed n a b f g = record {
   last = (a ++ (g.last).0, ap (λ t. a ++ t) (g.last).1 ∙ sym (append_assoc a (g.last).0 (codes "\n")));
   number = omega (arith, newlines-append a b, f.number, g.number);
@@ -142,11 +142,11 @@ adjacencies_have_lines name ports h =
 
 -- ---- answers of one line
 
-names_lack : (names : List (List ℕ)) → AllByRecursion IsName names → AllByRecursion LacksNewline names
+pub names_lack : (names : List (List ℕ)) → AllByRecursion IsName names → AllByRecursion LacksNewline names
 names_lack [] h = tt
 names_lack (name ∷ names) h = (name_lacks name h.0, names_lack names h.1)
 
-way_lacks : (cost : ℕ) (names : List (List ℕ)) → AllByRecursion LacksNewline names → AllByRecursion LacksNewline (lines.way_words cost names)
+pub way_lacks : (cost : ℕ) (names : List (List ℕ)) → AllByRecursion LacksNewline names → AllByRecursion LacksNewline (lines.way_words cost names)
 way_lacks cost [] h = (refl, tt)
 way_lacks cost (name ∷ names) h = (decimal_lacks cost, (decimal_lacks (length names), (h.0, h.1)))
 

@@ -1,7 +1,10 @@
 -- What the texts of answers are like.
-use Rattle.std.specs.Prelude.{◌≡◌, ℕ, ◌+◌, List, ◌++◌, length, Bool, ◌==◌, IsTrue, ◌↔◌, Contains, count_by, All, Option, codes}
+use Rattle.std.specs.Prelude.{◌≡◌, ℕ, ◌+◌, List, ◌++◌, length, Bool, ◌==◌, IsTrue, ◌↔◌, Contains, count_by, All, Option, codes, ⊤}
 use Rattle.std.specs.List.Sorted.{IsStrictlyIncreasing}
+use Rattle.spb_types.specs.declared.entry_word.EntryWord.{EntryWord}
+use Rattle.spb_types.specs.declared.entry_word.EntryWord.TheVariants.{Start, Before, Unreached}
 use Rattle.spb_types.specs.declared.ports.PortSet.{PortSet}
+use Rattle.spb_types.specs.declared.tables.TableRow.{TableRow}
 use Rattle.spb_types.specs.declared.tables.Tables.{Tables}
 use Rattle.spb_types.specs.Name.{is_name}
 use Rattle.spb_types.specs.Ports.{has}
@@ -12,6 +15,8 @@ use Rattle.report.specs.Tables.{tables_text}
 use Rattle.report.specs.Database.{db_text}
 use Rattle.report.specs.Adjacencies.{adj_text}
 use Rattle.report.specs.Lines.{path_text, drops_text, out_text, state_text, error_text}
+use Rattle.report.specs.Changes.{whatif_text}
+use Rattle.report.specs.Checking.{proof_text, check_yes_text, check_no_text}
 
 -- the ports that are written for a set are just those of the set, ascending
 pub record ListsPorts (set : PortSet) : Type 0 where
@@ -52,6 +57,11 @@ abbrev pub AdjacenciesHaveLines : Type 0
 AdjacenciesHaveLines = (name : List ℕ) (ports : List (Adjacency × Bool)) → IsName name
     → HasLines (1 + length ports) (adj_text name ports)
 
+-- what a change would do has a line for each row that changes, and one before
+abbrev pub ChangesHaveLines : Type 0
+ChangesHaveLines = (changes : List (List ℕ × Bool × TableRow)) → All (λ c. IsName c.0) changes
+    → HasLines (1 + length changes) (whatif_text changes)
+
 -- the other answers are one line
 abbrev pub PathIsLine : Type 0
 PathIsLine = (from to : List ℕ) (vid cost : ℕ) (names : List (List ℕ)) → IsName from → IsName to → All IsName names
@@ -69,3 +79,19 @@ StateIsLine = (failing : List ℕ) → HasLines 1 (state_text failing)
 abbrev pub ErrorIsLine : Type 0
 ErrorIsLine = (at number : ℕ) (name : List ℕ) (column : Option ℕ) → LacksNewline name
     → HasLines 1 (error_text at number name column)
+
+-- what an entry names is a name
+abbrev pub NamesBefore : EntryWord → Type 0
+NamesBefore Start = ⊤
+NamesBefore (Before name) = IsName name
+NamesBefore Unreached = ⊤
+
+abbrev pub ProofIsLine : Type 0
+ProofIsLine = (from to : List ℕ) (vid : ℕ) (entries : List EntryWord) → IsName from → IsName to → All NamesBefore entries
+    → HasLines 1 (proof_text from to vid entries)
+
+abbrev pub YesIsLine : Type 0
+YesIsLine = (cost : ℕ) (names : List (List ℕ)) → All IsName names → HasLines 1 (check_yes_text cost names)
+
+abbrev pub NoIsLine : Type 0
+NoIsLine = (number : ℕ) → HasLines 1 (check_no_text number)

@@ -5,4 +5,6 @@ pub mod Tables
 pub mod Database
 pub mod Adjacencies
 pub mod Lines
+pub mod Changes
+pub mod Checking
 pub mod Laws

@@ -9,12 +9,18 @@ use Rattle.report.specs.Words.{line}
 use Rattle.report.specs.Ports.{ports_text}
 
 -- a unicast row: `u VID MAC PORT`
+abbrev pub unicast_words : UnicastRow → List (List ℕ)
+unicast_words r = decimal r.vid.value ∷ encode_lower r.mac.bytes ∷ decimal r.port ∷ []
+
 unfoldable pub unicast_line : UnicastRow → List ℕ
-unicast_line r = line (codes "u") (decimal r.vid.value ∷ encode_lower r.mac.bytes ∷ decimal r.port ∷ [])
+unicast_line r = line (codes "u") (unicast_words r)
 
 -- a group row: `g VID MAC PORTS`
+abbrev pub group_words : GroupRow → List (List ℕ)
+group_words r = decimal r.vid.value ∷ encode_lower r.mac.bytes ∷ ports_text r.ports ∷ []
+
 unfoldable pub group_line : GroupRow → List ℕ
-group_line r = line (codes "g") (decimal r.vid.value ∷ encode_lower r.mac.bytes ∷ ports_text r.ports ∷ [])
+group_line r = line (codes "g") (group_words r)
 
 -- what is said of quiet, where that was asked
 abbrev pub quiet_words : Option Bool → List (List ℕ)

@@ -32,7 +32,7 @@ pub fn path_text(
     Ok(text.into_bytes())
 }
 
-fn put_way(text: &mut Text, cost: u64, names: &[Name]) -> Result<(), NoMemory>
+pub(crate) fn put_way(text: &mut Text, cost: u64, names: &[Name]) -> Result<(), NoMemory>
     ensures { OnOk result (text.new ≡ text.old ++ flat_map spaced (texts.way_words cost names.now)) }
 {
     if names.is_empty() {

@@ -4,15 +4,16 @@ use Rattle.std.proofs.lemmas.Bool.Decides.{nat_tests}
 use Rattle.spb_types.specs.declared.link.Side.TheVariants.{A}
 use Rattle.spb_types.specs.declared.link.Dir.TheVariants.{Ab}
 use Rattle.scenario.specs.declared.command.Command.{Command}
+use Rattle.spb_types.specs.declared.service.Mode.TheVariants.{Both}
 use Rattle.scenario.specs.declared.keyword.Keyword.{Keyword}
 use Rattle.scenario.specs.declared.keyword.Keyword.TheVariants.{State}
-use Rattle.scenario.specs.Words.{is_blank, Word, words_in, rest_from, next, at_end, meant}
+use Rattle.scenario.specs.Words.{is_blank, Word, words_in, rest_from, next, next_more, at_end, meant}
 use Rattle.scenario.specs.WordForms.{decoded, hexadecimal}
 use Rattle.scenario.specs.Keywords.{text_of, keyword}
-use Rattle.scenario.specs.Grammar.{Kind, a_name, a_number, a_system, a_source, a_frame, a_dir, a_side, Value, meaning, Form, gives, takes, read, form_of, is_comment, some, unless_blank, line_of, ◌then◌}
+use Rattle.scenario.specs.Grammar.{Kind, a_name, a_number, a_system, a_source, a_frame, a_dir, a_side, a_mode, Value, meaning, Form, gives, takes, may_take, read, form_of, is_comment, some, unless_blank, line_of, ◌then◌}
 use Rattle.scenario.specs.Spelling.{SpellsValue, SpellsForm, SpellsWords, CanGoOn, bytes_of, Misfits, Misses, IsRefusedAt, too_long, misfits, misses}
 use Rattle.scenario.proofs.Values.{spells-meaning, meaning-spelled}
-use Rattle.scenario.proofs.FormLaws.{rest}
+use Rattle.scenario.proofs.FormLaws.{rest, more-read}
 use Rattle.scenario.proofs.LineLaws.{keyword-text, text-keyword}
 use Rattle.scenario.specs.declared.line.TheConstants.{LINE_LIMIT}
 
@@ -25,26 +26,28 @@ example a_source = (codes "00000", record { value = hexadecimal (codes "00000") 
 example a_frame = (codes "00", decoded (codes "00"), (omega arith, refl, refl, refl))
 example a_dir = (codes "ab", Ab, refl)
 example a_side = (codes "a", A, refl)
+example a_mode = (codes "both", Both, refl)
 
 -- some words more make a command of a form of these
-abbrev GoesOn : Form → List (List ℕ) → Type 0
-GoesOn f words = (more : List (List ℕ)) × (command : Command) × SpellsForm f command (words ++ more)
+abbrev GoesOn : {A : Type 0} → Form A → List (List ℕ) → Type 0
+GoesOn {A} f words = (more : List (List ℕ)) × (command : A) × SpellsForm f command (words ++ more)
 
 -- each form has a command
-any-command : (f : Form) → GoesOn f []
+any-command : {A : Type 0} (f : Form A) → GoesOn f []
 any-command (gives command) = ([], command, refl)
 any-command (takes k more) =
     let first = example k in
     let others = any-command (more first.1) in
     (first.0 ∷ others.0, others.1, (first.1, first.2, others.2))
+any-command (may_take given k more) = ([], given, refl)
 
 -- one more word in front, of this value
-goes-on : (k : Kind) (more : Value k → Form) (value : Value k) (word : List ℕ) (words : List (List ℕ)) → meaning k word ≡ Some value
+goes-on : {A : Type 0} (k : Kind) (more : Value k → Form A) (value : Value k) (word : List ℕ) (words : List (List ℕ)) → meaning k word ≡ Some value
     → GoesOn (more value) words → GoesOn (takes k more) (word ∷ words)
 goes-on k more value word words e h = (h.0, h.1, (value, spells-meaning k value word e, h.2))
 
 -- and back
-went-on : (k : Kind) (more : Value k → Form) (value : Value k) (word : List ℕ) (words : List (List ℕ)) → meaning k word ≡ Some value
+went-on : {A : Type 0} (k : Kind) (more : Value k → Form A) (value : Value k) (word : List ℕ) (words : List (List ℕ)) → meaning k word ≡ Some value
     → GoesOn (takes k more) (word ∷ words) → GoesOn (more value) words
 went-on k more value word words e h =
     let again = meaning-spelled k h.2.0 word h.2.1 in
@@ -52,7 +55,7 @@ went-on k more value word words e h =
     (h.0, h.1, subst (λ (v : Value k). SpellsForm (more v) h.1 (words ++ h.0)) same h.2.2)
 
 -- where a form's words go wrong
-pub record FormMisfits (f : Form) (words : List Word) (column : ℕ) : Type 0 where
+pub record FormMisfits {A : Type 0} (f : Form A) (words : List Word) (column : ℕ) : Type 0 where
   pub before : List Word
   pub word : Word
   pub after : List Word
@@ -61,15 +64,15 @@ pub record FormMisfits (f : Form) (words : List Word) (column : ℕ) : Type 0 wh
   pub fit : GoesOn f (bytes_of before)
   pub misfit : GoesOn f (bytes_of before ++ (word.bytes ∷ [])) → ⊥
 
-pub record FormMisses (f : Form) (words : List Word) : Type 0 where
+pub record FormMisses {A : Type 0} (f : Form A) (words : List Word) : Type 0 where
   pub fit : GoesOn f (bytes_of words)
-  pub missing : (command : Command) → SpellsForm f command (bytes_of words) → ⊥
+  pub missing : (command : A) → SpellsForm f command (bytes_of words) → ⊥
 
-abbrev pub GoesWrong : Form → List Word → ℕ → ℕ → Type 0
+abbrev pub GoesWrong : {A : Type 0} → Form A → List Word → ℕ → ℕ → Type 0
 GoesWrong f words end column = FormMisfits f words column ⊎ (FormMisses f words × (column ≡ end))
 
 -- a word that fits in front of words that go wrong
-wrong-behind : (k : Kind) (more : Value k → Form) (value : Value k) (word : Word) (words : List Word) (end column : ℕ)
+wrong-behind : {A : Type 0} (k : Kind) (more : Value k → Form A) (value : Value k) (word : Word) (words : List Word) (end column : ℕ)
     → meaning k word.bytes ≡ Some value → GoesWrong (more value) words end column → GoesWrong (takes k more) (word ∷ words) end column
 wrong-behind k more value word words end column e (inl h) =
     inl (record {
@@ -94,7 +97,7 @@ wrong-behind k more value word words end column e (inr h) =
     )
 
 -- a word that doesn't fit
-wrong-here : (k : Kind) (more : Value k → Form) (word : Word) (words : List Word) (end column : ℕ)
+wrong-here : {A : Type 0} (k : Kind) (more : Value k → Form A) (word : Word) (words : List Word) (end column : ℕ)
     → meaning k word.bytes ≡ None → column ≡ word.column → GoesWrong (takes k more) (word ∷ words) end column
 wrong-here k more word words end column e c =
     inl (record {
@@ -108,7 +111,7 @@ wrong-here k more word words end column e c =
     })
 
 -- the word that a form takes first
-wrong-first : (k : Kind) (more : Value k → Form) (word : Word) (words : List Word) (end column : ℕ)
+wrong-first : {A : Type 0} (k : Kind) (more : Value k → Form A) (word : Word) (words : List Word) (end column : ℕ)
     → ((v : Value k) → read (more v) (rest words end) ≡ Err column → GoesWrong (more v) words end column)
     → (o : Option (Value k)) → meaning k word.bytes ≡ o
     → (meant o word.column (rest words end) then (λ v left. read (more v) left)) ≡ Err column
@@ -116,9 +119,33 @@ wrong-first : (k : Kind) (more : Value k → Form) (word : Word) (words : List W
 wrong-first k more word words end column ih None e h = wrong-here k more word words end column e cc
 wrong-first k more word words end column ih (Some v) e h = wrong-behind k more v word words end column e (ih v h)
 
+-- where a word more follows, a form goes wrong as if it had to
+fit-more : {A : Type 0} (given : A) (k : Kind) (more : Value k → Form A) (words : List (List ℕ)) → GoesOn (takes k more) words → GoesOn (may_take given k more) words
+fit-more given k more [] h = any-command (may_take given k more)
+fit-more given k more (word ∷ words) h = h
+
+fit-less : {A : Type 0} (given : A) (k : Kind) (more : Value k → Form A) (before : List (List ℕ)) (word : List ℕ)
+    → GoesOn (may_take given k more) (before ++ (word ∷ [])) → GoesOn (takes k more) (before ++ (word ∷ []))
+fit-less given k more [] word h = h
+fit-less given k more (first ∷ before) word h = h
+
+wrong-more : {A : Type 0} (given : A) (k : Kind) (more : Value k → Form A) (word : Word) (words : List Word) (end column : ℕ)
+    → GoesWrong (takes k more) (word ∷ words) end column → GoesWrong (may_take given k more) (word ∷ words) end column
+wrong-more given k more word words end column (inl h) =
+    inl (record {
+      before = h.before;
+      word = h.word;
+      after = h.after;
+      words_are = h.words_are;
+      column_is = h.column_is;
+      fit = fit-more given k more (bytes_of h.before) h.fit;
+      misfit = λ on. h.misfit (fit-less given k more (bytes_of h.before) h.word.bytes on);
+    })
+wrong-more given k more word words end column (inr h) = inr (record { fit = h.0.fit; missing = h.0.missing }, h.1)
+
 -- words that a form refuses go wrong at the column
-pub refused-words : (f : Form) (words : List Word) (end column : ℕ) → read f (rest words end) ≡ Err column → GoesWrong f words end column
-unfolding next at_end
+pub refused-words : {A : Type 0} (f : Form A) (words : List Word) (end column : ℕ) → read f (rest words end) ≡ Err column → GoesWrong f words end column
+unfolding next next_more at_end
 refused-words (gives command) [] end column h = cc
 refused-words (gives command) (word ∷ words) end column h =
     inl (record {
@@ -134,6 +161,11 @@ refused-words (takes k more) [] end column h =
     inr (record { fit = any-command (takes k more); missing = λ command s. s }, cc)
 refused-words (takes k more) (word ∷ words) end column h =
     wrong-first k more word words end column (λ v. refused-words (more v) words end column) (meaning k word.bytes) refl h
+refused-words (may_take given k more) [] end column h = cc
+refused-words (may_take given k more) (word ∷ words) end column h =
+    wrong-more given k more word words end column
+    (wrong-first k more word words end column (λ v. refused-words (more v) words end column) (meaning k word.bytes) refl
+    (sym (more-read k more given word.column (rest words end) (meaning k word.bytes)) ∙ h))
 
 -- ---- a line
 

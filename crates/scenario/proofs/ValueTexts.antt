@@ -12,10 +12,11 @@ use Rattle.spb_types.specs.Name.{is_name, is_name_byte, is_letter, is_digit}
 use Rattle.spb_types.specs.declared.service.SourceId.{SourceId}
 use Rattle.spb_types.specs.declared.link.Side.TheVariants.{A, B}
 use Rattle.spb_types.specs.declared.link.Dir.TheVariants.{Ab, Ba}
+use Rattle.spb_types.specs.declared.service.Mode.TheVariants.{Both, Send, Recv}
 use Rattle.scenario.specs.Words.{is_blank}
 use Rattle.scenario.specs.WordForms as forms
-use Rattle.scenario.specs.Grammar.{Kind, a_name, a_number, a_system, a_source, a_frame, a_dir, a_side, Value}
-use Rattle.scenario.specs.Spelling.{AreDigits, AreHexDigits, side_text, dir_text, SpellsValue, IsWord}
+use Rattle.scenario.specs.Grammar.{Kind, a_name, a_number, a_system, a_source, a_frame, a_dir, a_side, a_mode, Value}
+use Rattle.scenario.specs.Spelling.{AreDigits, AreHexDigits, side_text, dir_text, mode_text, SpellsValue, IsWord}
 use Rattle.scenario.specs.Printing.{hex_digit, source_text}
 
 -- what is printed for a value
@@ -27,6 +28,7 @@ value_text a_source source = source_text source.value
 value_text a_frame frame = encode_lower frame
 value_text a_dir dir = dir_text dir
 value_text a_side side = side_text side
+value_text a_mode mode = mode_text mode
 
 -- the text spells the value, and is no longer than the word
 abbrev pub IsPrinted : (k : Kind) → Value k → List ℕ → List ℕ → Type 0
@@ -99,6 +101,7 @@ value-printed a_frame value word h =
     ((omega (arith, t.0, h.0), ap (λ (n : ℕ). n % 2) t.0 ∙ h.1, t.1, t.2), omega (arith, t.0))
 value-printed a_dir value word h = (refl, rw h (omega arith))
 value-printed a_side value word h = (refl, rw h (omega arith))
+value-printed a_mode value word h = (refl, rw h (omega arith))
 
 -- ---- a word that spells a value holds no blank
 
@@ -144,3 +147,6 @@ value-word a_dir Ab word h = subst IsWord (sym h) refl
 value-word a_dir Ba word h = subst IsWord (sym h) refl
 value-word a_side A word h = subst IsWord (sym h) refl
 value-word a_side B word h = subst IsWord (sym h) refl
+value-word a_mode Both word h = subst IsWord (sym h) refl
+value-word a_mode Send word h = subst IsWord (sym h) refl
+value-word a_mode Recv word h = subst IsWord (sym h) refl

@@ -13,9 +13,11 @@ use Rattle.spb_types.specs.declared.link.Side.{Side}
 use Rattle.spb_types.specs.declared.link.Side.TheVariants.{A, B}
 use Rattle.spb_types.specs.declared.link.Dir.{Dir}
 use Rattle.spb_types.specs.declared.link.Dir.TheVariants.{Ab, Ba}
-use Rattle.scenario.specs.WordForms.{name, number, system, source, frame, dir, side, decimal, decoded, hexadecimal}
-use Rattle.scenario.specs.Grammar.{Kind, a_name, a_number, a_system, a_source, a_frame, a_dir, a_side, Value, meaning}
-use Rattle.scenario.specs.Spelling.{dir_text, side_text, SpellsValue}
+use Rattle.spb_types.specs.declared.service.Mode.{Mode}
+use Rattle.spb_types.specs.declared.service.Mode.TheVariants.{Both, Send, Recv}
+use Rattle.scenario.specs.WordForms.{name, number, system, source, frame, dir, side, mode, decimal, decoded, hexadecimal}
+use Rattle.scenario.specs.Grammar.{Kind, a_name, a_number, a_system, a_source, a_frame, a_dir, a_side, a_mode, Value, meaning}
+use Rattle.scenario.specs.Spelling.{dir_text, side_text, mode_text, SpellsValue}
 
 -- which of two tests a choice passed
 chosen : {X : Type 0} (p q : Bool) (x y z : X) → (if p then Some x else (if q then Some y else None)) ≡ Some z
@@ -40,9 +42,29 @@ spells-side v word h =
       | inr second ↦ (bytes_eq-Decides word (codes "b")).0 second.0 ∙ ap side_text second.1
     ]
 
+-- which of three
+chosen-of : {X : Type 0} (p q r : Bool) (x y z v : X) → (if p then Some x else (if q then Some y else (if r then Some z else None))) ≡ Some v
+    → ((p ≡ true) × (x ≡ v)) ⊎ (((q ≡ true) × (y ≡ v)) ⊎ ((r ≡ true) × (z ≡ v)))
+chosen-of true q r x y z v h = inl (refl, cc)
+chosen-of false true r x y z v h = inr (inl (refl, cc))
+chosen-of false false true x y z v h = inr (inr (refl, cc))
+chosen-of false false false x y z v h = cc
+
+spells-mode : (v : Mode) (word : List ℕ) → mode word ≡ Some v → word ≡ mode_text v
+unfolding mode
+spells-mode v word h =
+    elim (chosen-of (bytes_eq word (codes "both")) (bytes_eq word (codes "send")) (bytes_eq word (codes "recv")) Both Send Recv v h) [
+      | inl first ↦ (bytes_eq-Decides word (codes "both")).0 first.0 ∙ ap mode_text first.1
+      | inr others ↦
+          elim others [
+            | inl second ↦ (bytes_eq-Decides word (codes "send")).0 second.0 ∙ ap mode_text second.1
+            | inr third ↦ (bytes_eq-Decides word (codes "recv")).0 third.0 ∙ ap mode_text third.1
+          ]
+    ]
+
 -- a word that means a value spells it
 pub spells-meaning : (k : Kind) (v : Value k) (word : List ℕ) → meaning k word ≡ Some v → SpellsValue k v word
-unfolding name number system source frame dir side
+unfolding name number system source frame dir side mode
 spells-meaning a_name v word h =
     let p = cond_some (is_name word) word v h in
     (p.0, p.1)
@@ -66,10 +88,11 @@ spells-meaning a_frame v word h =
     (grind (arith, nat_tests), eqb-true (length word % 2) 0 r.1, q.1, p.1)
 spells-meaning a_dir v word h = spells-dir v word h
 spells-meaning a_side v word h = spells-side v word h
+spells-meaning a_mode v word h = spells-mode v word h
 
 -- a word that spells a value means it
 pub meaning-spelled : (k : Kind) (v : Value k) (word : List ℕ) → SpellsValue k v word → meaning k word ≡ Some v
-unfolding name number system source frame dir side
+unfolding name number system source frame dir side mode
 meaning-spelled a_name v word h = rw h.0 (ap Some h.1)
 meaning-spelled a_number v word h =
     let low : nat_le 1 (length word) ≡ true = grind (arith, nat_tests) in
@@ -84,3 +107,6 @@ meaning-spelled a_dir Ab word h = rw h refl
 meaning-spelled a_dir Ba word h = rw h refl
 meaning-spelled a_side A word h = rw h refl
 meaning-spelled a_side B word h = rw h refl
+meaning-spelled a_mode Both word h = rw h refl
+meaning-spelled a_mode Send word h = rw h refl
+meaning-spelled a_mode Recv word h = rw h refl

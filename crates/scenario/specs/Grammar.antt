@@ -4,12 +4,14 @@ use Rattle.spb_types.specs.declared.service.SourceId.{SourceId}
 use Rattle.spb_types.specs.declared.link.Side.{Side}
 use Rattle.spb_types.specs.declared.link.Dir.{Dir}
 use Rattle.scenario.specs.declared.command.Command.{Command}
+use Rattle.spb_types.specs.declared.service.Mode.{Mode}
+use Rattle.spb_types.specs.declared.service.Mode.TheVariants.{Both}
 use Rattle.scenario.specs.declared.command.Command.TheVariants as command
 use Rattle.scenario.specs.declared.keyword.Keyword.{Keyword}
 use Rattle.scenario.specs.declared.keyword.Keyword.TheVariants.{Vid, Bridge, Link, Isid, Attach, Detach, Metric, Down, Up, Restart, Tick, Deliver, Lose, Double, Round, Drain, Frame, State, Show, Wiring, Db, Adj, Path, Drops}
 use Rattle.scenario.specs.declared.line.TheConstants.{LINE_LIMIT}
-use Rattle.scenario.specs.Words.{Word, Rest, rest_from, Reading, next, at_end}
-use Rattle.scenario.specs.WordForms.{name, number, system, source, frame, dir, side}
+use Rattle.scenario.specs.Words.{Word, Rest, rest_from, Reading, next, next_more, at_end}
+use Rattle.scenario.specs.WordForms.{name, number, system, source, frame, dir, side, mode}
 use Rattle.scenario.specs.Keywords.{keyword}
 
 -- the kinds of words that follow a keyword
@@ -21,6 +23,7 @@ pub data Kind : Type 0 where
   a_frame : Kind
   a_dir : Kind
   a_side : Kind
+  a_mode : Kind
 
 -- what a word of the kind means
 abbrev pub Value : Kind → Type 0
@@ -31,6 +34,7 @@ Value a_source = SourceId
 Value a_frame = List ℕ
 Value a_dir = Dir
 Value a_side = Side
+Value a_mode = Mode
 
 abbrev pub meaning : (k : Kind) → List ℕ → Option (Value k)
 meaning a_name = name
@@ -40,13 +44,16 @@ meaning a_source = source
 meaning a_frame = frame
 meaning a_dir = dir
 meaning a_side = side
+meaning a_mode = mode
 
--- what may follow a keyword: words of these kinds, and the command that they then give
-pub data Form : Type 0 where
-  gives : Command → Form
-  takes : (k : Kind) → (Value k → Form) → Form
+-- what may follow: words of these kinds, and what they then give. Where a word may follow, the line may also end
+-- before it, and then gives this.
+pub data Form (A : Type 0) : Type 0 where
+  gives : A → Form A
+  takes : (k : Kind) → (Value k → Form A) → Form A
+  may_take : A → (k : Kind) → (Value k → Form A) → Form A
 
--- the command that the words left of a line give, or else the column of the first byte of the first that doesn't fit
+-- what the words left of a line give, or else the column of the first byte of the first that doesn't fit
 infixl 10 ◌then◌
 abbrev pub ◌then◌ : {A B : Type 0} → Reading A → (A → Rest → Result B ℕ) → Result B ℕ
 (Ok found) then f = f found.0 found.1
@@ -57,22 +64,30 @@ abbrev pub ◌giving◌ : {A : Type 0} → Result (Unit {0}) ℕ → A → Resul
 (Ok end) giving value = Ok value
 (Err column) giving value = Err column
 
-abbrev pub read : Form → Rest → Result Command ℕ
-read (gives command) rest = at_end rest giving command
+-- what follows where a word more was found, or where none was left
+abbrev pub with_more : {A B : Type 0} → Option A → Result B ℕ → (A → Result B ℕ) → Result B ℕ
+with_more None ends goes = ends
+with_more (Some value) ends goes = goes value
+
+abbrev pub read : {A : Type 0} → Form A → Rest → Result A ℕ
+read (gives given) rest = at_end rest giving given
+read (may_take given kind more) rest =
+    next_more (meaning kind) rest
+    then (λ found left. with_more found (at_end left giving given) (λ value. read (more value) left))
 read (takes kind more) rest = next (meaning kind) rest then (λ value left. read (more value) left)
 
 infixl 10 ◌>>=◌
-abbrev pub ◌>>=◌ : (k : Kind) → (Value k → Form) → Form
+abbrev pub ◌>>=◌ : {A : Type 0} → (k : Kind) → (Value k → Form A) → Form A
 k >>= f = takes k f
 
 -- one name, and the command that it gives
-abbrev pub one_name : (List ℕ → Command) → Form
+abbrev pub one_name : (List ℕ → Command) → Form Command
 one_name command = do
   name ← a_name
   gives (command name)
 
 -- the form of the line that each keyword begins
-unfoldable pub form_of : Keyword → Form
+unfoldable pub form_of : Keyword → Form Command
 form_of Vid = do
   vid ← a_number
   ect ← a_number
@@ -100,7 +115,7 @@ form_of Attach = do
   bridge ← a_name
   port ← a_number
   isid ← a_number
-  gives (command.Attach bridge port isid)
+  may_take (command.Attach bridge port isid Both) a_mode (λ mode. gives (command.Attach bridge port isid mode))
 form_of Detach = do
   bridge ← a_name
   port ← a_number

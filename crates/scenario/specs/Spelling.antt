@@ -7,11 +7,13 @@ use Rattle.spb_types.specs.declared.link.Side.TheVariants.{A, B}
 use Rattle.spb_types.specs.declared.link.Dir.{Dir}
 use Rattle.spb_types.specs.declared.link.Dir.TheVariants.{Ab, Ba}
 use Rattle.scenario.specs.declared.command.Command.{Command}
+use Rattle.spb_types.specs.declared.service.Mode.{Mode}
+use Rattle.spb_types.specs.declared.service.Mode.TheVariants.{Both, Send, Recv}
 use Rattle.scenario.specs.declared.keyword.Keyword.{Keyword}
 use Rattle.scenario.specs.Words.{is_blank, Word, words_in}
 use Rattle.scenario.specs.WordForms.{decimal, decoded, hexadecimal}
 use Rattle.scenario.specs.Keywords.{text_of}
-use Rattle.scenario.specs.Grammar.{Kind, a_name, a_number, a_system, a_source, a_frame, a_dir, a_side, Value, Form, gives, takes, form_of, is_comment}
+use Rattle.scenario.specs.Grammar.{Kind, a_name, a_number, a_system, a_source, a_frame, a_dir, a_side, a_mode, Value, Form, gives, takes, may_take, form_of, is_comment}
 use Rattle.scenario.specs.declared.line.TheConstants.{LINE_LIMIT}
 
 -- How a command may be spelled in a line.
@@ -30,6 +32,11 @@ abbrev pub dir_text : Dir → List ℕ
 dir_text Ab = codes "ab"
 dir_text Ba = codes "ba"
 
+abbrev pub mode_text : Mode → List ℕ
+mode_text Both = codes "both"
+mode_text Send = codes "send"
+mode_text Recv = codes "recv"
+
 -- the word spells the value
 abbrev pub SpellsValue : (k : Kind) → Value k → List ℕ → Type 0
 SpellsValue a_name name word = IsTrue (is_name word) × (word ≡ name)
@@ -39,13 +46,17 @@ SpellsValue a_source source word = (length word ≡ 5) × AreHexDigits word × (
 SpellsValue a_frame frame word = (1 ≤ length word) × (length word % 2 ≡ 0) × AreHexDigits word × (decoded word ≡ frame)
 SpellsValue a_dir dir word = word ≡ dir_text dir
 SpellsValue a_side side word = word ≡ side_text side
+SpellsValue a_mode mode word = word ≡ mode_text mode
 
 -- the words spell what the form takes, one word for each, and the form then gives the command
-abbrev pub SpellsForm : Form → Command → List (List ℕ) → Type 0
+abbrev pub SpellsForm : {A : Type 0} → Form A → A → List (List ℕ) → Type 0
 SpellsForm (gives given) command [] = given ≡ command
 SpellsForm (gives given) command (word ∷ words) = ⊥
 SpellsForm (takes kind more) command [] = ⊥
 SpellsForm (takes kind more) command (word ∷ words) =
+    (value : Value kind) × SpellsValue kind value word × SpellsForm (more value) command words
+SpellsForm (may_take given kind more) command [] = given ≡ command
+SpellsForm (may_take given kind more) command (word ∷ words) =
     (value : Value kind) × SpellsValue kind value word × SpellsForm (more value) command words
 
 abbrev pub AreBlank : List ℕ → Type 0

@@ -10,6 +10,8 @@ use Rattle.spb_types.specs.declared.link.Side.{Side}
 use Rattle.spb_types.specs.declared.link.Side.TheVariants.{A, B}
 use Rattle.spb_types.specs.declared.link.Dir.{Dir}
 use Rattle.spb_types.specs.declared.link.Dir.TheVariants.{Ab, Ba}
+use Rattle.spb_types.specs.declared.service.Mode.{Mode}
+use Rattle.spb_types.specs.declared.service.Mode.TheVariants.{Both, Send, Recv}
 
 -- what a word means in each of its forms, or None where it isn't of that form
 
@@ -55,6 +57,13 @@ frame word =
 -- `ab` or `ba`
 unfoldable pub dir : List ℕ → Option Dir
 dir word = if bytes_eq word (codes "ab") then Some Ab else (if bytes_eq word (codes "ba") then Some Ba else None)
+
+-- `both`, `send` or `recv`
+unfoldable pub mode : List ℕ → Option Mode
+mode word =
+    if bytes_eq word (codes "both") then Some Both
+    else (if bytes_eq word (codes "send") then Some Send
+    else (if bytes_eq word (codes "recv") then Some Recv else None))
 
 -- `a` or `b`
 unfoldable pub side : List ℕ → Option Side

@@ -46,6 +46,21 @@ first_of meaning (word ∷ words) end = meant (meaning word.bytes) word.column (
 unfoldable pub next : {A : Type 0} → (List ℕ → Option A) → Rest → Reading A
 next meaning rest = first_of meaning rest.words rest.end
 
+-- a word that was read, as one that may be missing
+abbrev pub some_read : {A : Type 0} → Reading A → Reading (Option A)
+some_read (Ok found) = Ok (Some found.0, found.1)
+some_read (Err column) = Err column
+
+-- the first of these words, if there is one
+abbrev pub more_of : {A : Type 0} → (List ℕ → Option A) → List Word → ℕ → Reading (Option A)
+more_of meaning [] end = Ok (None, record { words = []; end = end })
+more_of meaning (word ∷ words) end =
+    some_read (meant (meaning word.bytes) word.column (record { words = words; end = end }))
+
+-- the next word, if there is one more
+unfoldable pub next_more : {A : Type 0} → (List ℕ → Option A) → Rest → Reading (Option A)
+next_more meaning rest = more_of meaning rest.words rest.end
+
 abbrev pub ends_with : List Word → Result (Unit {0}) ℕ
 ends_with [] = Ok tt
 ends_with (word ∷ words) = Err word.column

@@ -1,5 +1,5 @@
 //! The commands of a script, as values.
-use spb_types::{Dir, Mac, Name, Seq, Side, SourceId};
+use spb_types::{Dir, Mac, Mode, Name, Seq, Side, SourceId};
 
 /// A command of a script: one variant for each form of a line.
 ///
@@ -34,11 +34,13 @@ pub enum Command {
         isid: u64,
         vid: u64,
     },
-    /// `attach B P I`: customer port P of bridge B becomes a member of the I-SID I.
+    /// `attach B P I [MODE]`: customer port P of bridge B becomes a member of the I-SID I, in the mode MODE: `both`,
+    /// `send` or `recv`. Without it the mode is `both`.
     Attach {
         bridge: Name,
         port: u64,
         isid: u64,
+        mode: Mode,
     },
     /// `detach B P`: customer port P of bridge B stops being a member.
     Detach {

@@ -1,11 +1,11 @@
-//! What a word of a line means: names, numbers, addresses, sources, directions, ends of links, frames.
+//! What a word of a line means: names, numbers, addresses, sources, directions, ends of links, modes, frames.
 ghost use Rattle.std.specs.Prelude.{◌≡◌, ◌+◌, ◌≤◌, ◌<◌, ℕ, List, Option, length, IsTrue, IfOk, unwrap_or};
 ghost use Rattle.hex.specs.Hex.{hex_digit_value, is_hex_digit};
 ghost use Rattle.std.specs.List.{list_all};
 ghost use Rattle.spb_types.specs.Name.{is_digit};
 ghost use Rattle.scenario.specs.WordForms as forms;
 
-use spb_types::{Dir, Mac, Name, NoMemory, Seq, Side, SourceId};
+use spb_types::{Dir, Mac, Mode, Name, NoMemory, Seq, Side, SourceId};
 use std::alloc::Global;
 use std::marker::Model;
 
@@ -129,6 +129,20 @@ impl<'a> Field<'a> for Dir {
         match word {
             b"ab" => Some(Dir::Ab),
             b"ba" => Some(Dir::Ba),
+            _ => None,
+        }
+    }
+}
+
+impl<'a> Field<'a> for Mode {
+    ghost meaning = { forms.mode };
+
+    #[tactic(auto, unfolding(crate::specs::WordForms::mode))]
+    fn read(word: &'a [u8]) -> Option<Mode> {
+        match word {
+            b"both" => Some(Mode::Both),
+            b"send" => Some(Mode::Send),
+            b"recv" => Some(Mode::Recv),
             _ => None,
         }
     }

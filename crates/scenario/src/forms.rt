@@ -8,7 +8,7 @@ use crate::error::LineError;
 use crate::field::Hex;
 use crate::keyword::Keyword;
 use crate::words::Words;
-use spb_types::Name;
+use spb_types::{Mode, Name};
 use std::alloc::Global;
 
 /// The word behind a keyword that takes one name, as in `tick B`.
@@ -80,15 +80,24 @@ pub fn isid(words: &mut Words<'_>) -> Result<Command, LineError>
     Ok(Command::Isid { isid, vid })
 }
 
-/// The words behind the keyword of `attach B P I`.
+/// The words behind the keyword of `attach B P I [MODE]`.
 pub fn attach(words: &mut Words<'_>) -> Result<Command, LineError>
     ensures { Gives result (read (form_of Keyword.Attach) words.old) }
 {
     let bridge = words.take()?;
     let port = words.take()?;
     let isid = words.take()?;
+    let mode = match words.take_more()? {
+        Some(mode) => mode,
+        None => Mode::Both,
+    };
     words.finish()?;
-    Ok(Command::Attach { bridge, port, isid })
+    Ok(Command::Attach {
+        bridge,
+        port,
+        isid,
+        mode,
+    })
 }
 
 /// The words behind the keyword of `detach B P`.

@@ -37,4 +37,4 @@ pub use laws::{
 };
 pub use line::{LINE_LIMIT, parse_line};
 pub use printing::print_command;
-pub use spb_types::{Dir, Side};
+pub use spb_types::{Dir, Mode, Side};

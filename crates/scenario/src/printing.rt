@@ -1,15 +1,16 @@
 //! Commands, printed as lines.
 ghost use Rattle.std.specs.Prelude.{◌≡◌, ◌++◌, ◌∷◌, [], ◌<◌, decimal, IfOk, IsTrue, OnOk};
+ghost use Rattle.std.specs.List.{flat_map};
 ghost use Rattle.hex.specs.Hex.{encode_lower};
 ghost use Rattle.scenario.specs.declared.command.Command.TheVariants as command;
 ghost use Rattle.scenario.specs.Keywords.{text_of};
 ghost use Rattle.scenario.specs.Spelling.{side_text, dir_text};
-ghost use Rattle.scenario.specs.Printing.{hex_digit as lower_digit, source_text, spaced, command_text, is_question};
+ghost use Rattle.scenario.specs.Printing.{hex_digit as lower_digit, source_text, mode_words, spaced, command_text, is_question, asks_or_happens};
 
 use crate::command::Command;
 use crate::keyword::Keyword;
 use itoa::Buffer;
-use spb_types::{Dir, Mac, Name, NoMemory, Side, SourceId};
+use spb_types::{Dir, Mac, Mode, Name, NoMemory, Side, SourceId};
 use std::alloc::Global;
 use std::marker::Model;
 
@@ -163,6 +164,17 @@ impl Text {
     }
 }
 
+/// A space and a mode, or nothing where a port sends and receives.
+fn put_mode(text: &mut Text, mode: Mode) -> Result<(), NoMemory>
+    ensures { OnOk result (text.new ≡ text.old ++ flat_map spaced (mode_words mode)) }
+{
+    match mode {
+        Mode::Both => Ok(()),
+        Mode::Send => text.word(b"send"),
+        Mode::Recv => text.word(b"recv"),
+    }
+}
+
 /// A keyword and one name, as in `tick B`.
 fn put_one_name(text: &mut Text, keyword: Keyword, name: Name) -> Result<(), NoMemory>
     ensures { OnOk result (text.new ≡ text.old ++ (text_of keyword ++ spaced name)) }
@@ -237,14 +249,21 @@ fn put_isid(text: &mut Text, isid: u64, vid: u64) -> Result<(), NoMemory>
     text.number(vid)
 }
 
-/// `attach B P I`.
-fn put_attach(text: &mut Text, bridge: Name, port: u64, isid: u64) -> Result<(), NoMemory>
-    ensures { OnOk result (text.new ≡ text.old ++ command_text (command.Attach bridge port isid)) }
+/// `attach B P I`, and the mode where it isn't `both`.
+fn put_attach(
+    text: &mut Text,
+    bridge: Name,
+    port: u64,
+    isid: u64,
+    mode: Mode,
+) -> Result<(), NoMemory>
+    ensures { OnOk result (text.new ≡ text.old ++ command_text (command.Attach bridge port isid mode)) }
 {
     text.keyword(Keyword::Attach)?;
     text.name(bridge)?;
     text.number(port)?;
-    text.number(isid)
+    text.number(isid)?;
+    put_mode(text, mode)
 }
 
 /// `detach B P`.
@@ -332,6 +351,27 @@ fn put_question(text: &mut Text, command: &Command) -> Result<(), NoMemory>
     }
 }
 
+/// The words of a command that asks something or lets something happen.
+fn put_event(text: &mut Text, command: &Command) -> Result<(), NoMemory>
+    ensures { IsTrue (asks_or_happens command.now) → OnOk result (text.new ≡ text.old ++ command_text command.now) }
+{
+    match command {
+        Command::Restart(name) => put_one_name(text, Keyword::Restart, *name),
+        Command::Tick(name) => put_one_name(text, Keyword::Tick, *name),
+        Command::Deliver { link, dir } => put_deliver(text, *link, *dir),
+        Command::Lose { link, dir, place } => put_lose(text, *link, *dir, *place),
+        Command::Double { link, dir, place } => put_double(text, *link, *dir, *place),
+        Command::Round(times) => put_one_number(text, Keyword::Round, *times),
+        Command::Drain(most) => put_one_number(text, Keyword::Drain, *most),
+        Command::Frame {
+            bridge,
+            port,
+            frame,
+        } => put_frame(text, *bridge, *port, frame.as_slice()),
+        _ => put_question(text, command),
+    }
+}
+
 /// The words of a command, by its form.
 fn put_command(text: &mut Text, command: &Command) -> Result<(), NoMemory>
     ensures { OnOk result (text.new ≡ text.old ++ command_text command.now) }
@@ -354,24 +394,17 @@ fn put_command(text: &mut Text, command: &Command) -> Result<(), NoMemory>
             cost,
         } => put_link(text, *name, (*a, *port_a), (*b, *port_b), *cost),
         Command::Isid { isid, vid } => put_isid(text, *isid, *vid),
-        Command::Attach { bridge, port, isid } => put_attach(text, *bridge, *port, *isid),
+        Command::Attach {
+            bridge,
+            port,
+            isid,
+            mode,
+        } => put_attach(text, *bridge, *port, *isid, *mode),
         Command::Detach { bridge, port } => put_detach(text, *bridge, *port),
         Command::Metric { link, side, metric } => put_metric(text, *link, *side, *metric),
         Command::Down(name) => put_one_name(text, Keyword::Down, *name),
         Command::Up(name) => put_one_name(text, Keyword::Up, *name),
-        Command::Restart(name) => put_one_name(text, Keyword::Restart, *name),
-        Command::Tick(name) => put_one_name(text, Keyword::Tick, *name),
-        Command::Deliver { link, dir } => put_deliver(text, *link, *dir),
-        Command::Lose { link, dir, place } => put_lose(text, *link, *dir, *place),
-        Command::Double { link, dir, place } => put_double(text, *link, *dir, *place),
-        Command::Round(times) => put_one_number(text, Keyword::Round, *times),
-        Command::Drain(most) => put_one_number(text, Keyword::Drain, *most),
-        Command::Frame {
-            bridge,
-            port,
-            frame,
-        } => put_frame(text, *bridge, *port, frame.as_slice()),
-        _ => put_question(text, command),
+        _ => put_event(text, command),
     }
 }
 

@@ -1,7 +1,7 @@
 //! The words of a line with their columns, one after another.
 ghost use Rattle.std.specs.Prelude.{◌≡◌, ◌≤◌, ◌+◌, [], ◌∷◌, length, MatchOption, Ok};
 ghost use Rattle.std.specs.List.{prefix_len, position_or_len};
-ghost use Rattle.scenario.specs.Words.{is_blank as is_blank_byte, rest_from, next, at_end};
+ghost use Rattle.scenario.specs.Words.{is_blank as is_blank_byte, rest_from, next, next_more, at_end};
 ghost use Rattle.scenario.specs.Answers.{Ends, Takes};
 
 use crate::error::LineError;
@@ -100,6 +100,20 @@ impl<'a> Words<'a> {
             return Err(LineError::Words(self.end()));
         };
         T::read(word).ok_or(LineError::Words(column))
+    }
+
+    /// What the next word means, or None where none is left. `Words` exactly where it doesn't fit.
+    #[tactic(auto, unfolding(crate::specs::Words::next_more))]
+    pub fn take_more<T: Field<'a>>(&mut self) -> Result<Option<T>, LineError>
+        ensures { Takes result self.new (next_more T.meaning self.old) }
+    {
+        let Some((column, word)) = self.next_word() else {
+            return Ok(None);
+        };
+        match T::read(word) {
+            Some(value) => Ok(Some(value)),
+            None => Err(LineError::Words(column)),
+        }
     }
 
     /// `Words` exactly where a word is left.

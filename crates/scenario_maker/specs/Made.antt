@@ -2,6 +2,7 @@
 use Rattle.std.specs.Prelude.{ℕ, ◌+◌, ◌-◌, ◌*◌, ◌/◌, ◌%◌, ◌==◌, nat_lt, if◌then◌else◌, List, [], ◌∷◌, ◌++◌, map, flat_map, codes, decimal}
 use Rattle.std.specs.List.{range_with_len}
 use Rattle.scenario.specs.declared.command.Command.{Command}
+use Rattle.spb_types.specs.declared.service.Mode.TheVariants.{Both}
 use Rattle.scenario.specs.declared.command.Command.TheVariants.{Vid, Bridge, Link, Isid, Attach, Down, Restart, Round, Drain, Frame, Show, Wiring}
 
 -- ---- Numbers and names: bridges, links and services are numbered from 1
@@ -81,9 +82,9 @@ vid_of k = if k % 2 == 1 then 10 else 20
 abbrev pub service : ℕ → Command
 service k = Isid (isid_of k) (vid_of k)
 
--- a customer port of the bridge becomes a member of service k
+-- a customer port of the bridge becomes a member of service k, one that sends and receives
 abbrev pub attach : ℕ → ℕ → ℕ → Command
-attach at port k = Attach (bridge_name at) port (isid_of k)
+attach at port k = Attach (bridge_name at) port (isid_of k) Both
 
 -- service k has a customer port at bridge k, at the next one, and at the one across
 abbrev pub members : ℕ → ℕ → List Command

@@ -3,7 +3,7 @@ ghost use Rattle.std.specs.Prelude.{◌≡◌, ◌++◌, ◌≤◌, OnOk};
 ghost use Rattle.scenario_maker.specs.Made as made;
 
 use crate::names::{across, bridge_name, next_of};
-use scenario::Command;
+use scenario::{Command, Mode};
 use spb_types::NoMemory;
 
 /// The I-SID of service `k`.
@@ -32,6 +32,7 @@ fn attach(bridge: u8, port: u64, k: u8) -> Command
         bridge: bridge_name(bridge),
         port,
         isid: isid_of(k),
+        mode: Mode::Both,
     }
 }
 

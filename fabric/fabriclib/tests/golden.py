@@ -187,6 +187,8 @@ _REFUSED = [
     "link L2 A 2 A 2 1",
     "round 20000\nround 1",
     "down L1\ndown L1",
+    "attach A 2 100 Send",
+    "attach A 2 100 recv\nframe A 2 ffffffffffff0a00000000010800",
 ]
 
 

@@ -175,12 +175,14 @@ def _metrics(metric: Dict[str, int]) -> str:
 def _tree_panel(fabric: Fabric, isid: int, source: Optional[str]) -> Panel:
     world = fabric.world
     members = world.members(isid)
-    source = source or members[0]
+    source = source or (world.senders(isid) or members)[0]
     vid = world.isids[isid][0]
     tree = fabric.tree(source, isid, vid)
     panel = Panel(world, f"service {isid} from {source}, in VID {vid}")
-    others = [bridge for bridge in members if bridge != source]
-    reached = f"{len(tree.reached)} of {counted(len(others), 'other member')} reached"
+    receivers = world.receivers(isid)
+    others = [bridge for bridge in receivers if bridge != source]
+    kind = "other member" if receivers == members else "other receiving member"
+    reached = f"{len(tree.reached)} of {counted(len(others), kind)} reached"
     panel.notes.append((reached, _RED if tree.missed else _GREY))
     if tree.missed:
         panel.notes.append(
