@@ -60,6 +60,10 @@ service_among ms isid = record {
   receive = list_any (λ m. is_of_isid isid m && m.receive) ms;
 }
 
+-- the service of a member alone
+abbrev pub service_of : Member → Service
+service_of m = record { isid = m.isid; transmit = m.transmit; receive = m.receive }
+
 -- the services of some members in one base VID, each once
 abbrev pub services_among : List Member → List Service
 services_among ms = map (service_among ms) (isids_in ms)

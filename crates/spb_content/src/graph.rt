@@ -1,5 +1,6 @@
 //! The graph that the contents of LSPs make, as far as a bridge reaches, or whole.
 ghost use Rattle.std.specs.Prelude.{◌≡◌, ◌≤◌, ◌++◌, length, map, IfOk, OnOk};
+ghost use Rattle.std.specs.List.{filter_map};
 ghost use Rattle.std.specs.Option.{option_to_list};
 ghost use Rattle.spb_types.specs.Graph.{IsDistinct, IsValid, IsValidFor};
 ghost use Rattle.spb_content.specs.Graph as spec;
@@ -8,6 +9,7 @@ ghost use Rattle.spb_content.specs.Building as building;
 
 use crate::Content;
 use crate::backbone::Backbone;
+use crate::merging::{ascends, merge};
 use crate::walk::walk_from;
 use spb_tlvs::{Neighbour, Service};
 use spb_types::limits::MOST_GRAPH_BRIDGES;
@@ -41,31 +43,62 @@ fn bridge_of(said: &(SystemId, Content)) -> Option<GraphBridge>
     }
 }
 
-/// The member that a service makes its system: it stands at the system's own B-MAC, with T and R set.
+/// The member that a service makes its system: it stands at the system's own B-MAC, with T or R set.
 fn member_of(system: SystemId, service: &(Mac, Vid, Service)) -> Option<Member>
     ensures { result ≡ spec.member_of system service.now }
 {
     let (mac, vid, service) = service;
-    if *mac == system.mac && service.transmit && service.receive {
+    if *mac == system.mac && (service.transmit || service.receive) {
         Some(Member {
             system,
             isid: service.isid,
             vid: *vid,
+            transmit: service.transmit,
+            receive: service.receive,
         })
     } else {
         None
     }
 }
 
-/// Puts the members that the services of a system make it behind the others.
-fn put_members(members: &mut Seq<Member>, said: &(SystemId, Content)) -> Result<(), NoMemory>
-    ensures { OnOk result (members.new ≡ members.old ++ spec.members_of said.now) }
+/// Puts a member for each service that makes its system one behind the others.
+fn put_each(members: &mut Seq<Member>, said: &(SystemId, Content)) -> Result<(), NoMemory>
+    ensures { OnOk result (members.new ≡ members.old ++ filter_map (spec.member_of said.now.0) said.now.1.services) }
 {
     let (system, content) = said;
     for service in content.services.as_slice() {
         push_some(members, member_of(*system, service))?;
     }
     Ok(())
+}
+
+fn put_all(members: &mut Seq<Member>, more: &[Member]) -> Result<(), NoMemory>
+    ensures { OnOk result (members.new ≡ members.old ++ more.now) }
+{
+    for member in more {
+        members.push(*member)?;
+    }
+    Ok(())
+}
+
+/// Puts the members that the services of a system make it behind the others: they stay as they are read where they
+/// ascend, each once.
+fn put_members(
+    alloc: Global,
+    members: &mut Seq<Member>,
+    said: &(SystemId, Content),
+) -> Result<(), NoMemory>
+    ensures { OnOk result (members.new ≡ members.old ++ spec.members_of said.now) }
+{
+    let start = members.len();
+    put_each(members, said)?;
+    let own = &members.as_slice()[start..];
+    if ascends(own) {
+        return Ok(());
+    }
+    let merged = merge(alloc, said.0, own)?;
+    members.truncate(start);
+    put_all(members, merged.as_slice())
 }
 
 /// The edge between two bridges that list each other, made at the end with the lower system id.
@@ -131,6 +164,7 @@ fn put_edges(
 
 /// Puts a bridge, the edges that are made at it, and its members into the graph.
 fn put(
+    alloc: Global,
     backbone: &Backbone<'_>,
     graph: &mut Graph,
     said: &(SystemId, Content),
@@ -140,7 +174,7 @@ fn put(
 {
     push_some(&mut graph.bridges, bridge_of(said))?;
     put_edges(backbone, &mut graph.edges, said)?;
-    put_members(&mut graph.members, said)
+    put_members(alloc, &mut graph.members, said)
 }
 
 /// The graph of the contents at marked places.
@@ -156,7 +190,7 @@ fn graph_among(alloc: Global, backbone: &Backbone<'_>, marks: &[bool]) -> Result
     };
     for place in 0..marks.len() {
         if marks[place] {
-            put(backbone, &mut graph, &backbone.list[place])?;
+            put(alloc, backbone, &mut graph, &backbone.list[place])?;
         }
     }
     Ok(graph)
@@ -166,8 +200,8 @@ fn graph_among(alloc: Global, backbone: &Backbone<'_>, marks: &[bool]) -> Result
 ///
 /// A system with an SPB-Inst is a bridge. An edge joins two different bridges that list each other with a metric of 1
 /// to 16,777,214, where the first entry for a neighbour counts; its cost is the greater metric, and its ports are those
-/// listed. A service makes its system a member where it stands at the system's own B-MAC, with T and R set. The graph
-/// is empty where `me` is no bridge.
+/// listed. A service makes its system a member where it stands at the system's own B-MAC, with T or R set; those of one
+/// base VID and I-SID make it one. The graph is empty where `me` is no bridge.
 ///
 /// The system ids differ, and there are at most 65,535. The graph is valid, and it is valid for `me` where the ports
 /// that `me` lists differ and are 1 to 32.

@@ -1,5 +1,6 @@
 //! The laws of what is written and read, and of the graph of all that is said. Each is the contract of a function that
 //! does nothing.
+ghost use Rattle.spb_content.specs.Members.{MergedSays, MergedAgain};
 ghost use Rattle.spb_content.specs.Laws.{ReadAgain, SameIsWritten, WrittenIsSame, OrderSaysNothingOfContent, TreesAscend, VidsAscend, IsidsAscend, OwnFits, ServicesAreFew, FragmentsAreRead, OthersSayServices, FewAreOne, FragmentsAreFirst, FragmentsFit, ContentIsOctets, FragmentsAreOctets, SaidGraphHasAllLinks};
 
 /// What a bridge of at most 60 I-SIDs writes in one is read as what it says.
@@ -11,6 +12,13 @@ pub fn content_again()
 pub fn same_content_is_written_alike()
     ensures written { SameIsWritten }
     ensures said { WrittenIsSame }
+{}
+
+/// Merging members gives one for each base VID and I-SID that a member has, which does what one of these members does.
+/// Merging again changes nothing.
+pub fn merging_is_exact()
+    ensures says { MergedSays }
+    ensures again { MergedAgain }
 {}
 
 /// What a bridge says doesn't depend on the order of its VIDs and attached ports.

@@ -19,9 +19,11 @@ pub use fragments::{bodies_of, content_of};
 pub use graph::{graph_of, said_graph_of};
 pub use laws::{
     content_again, content_fits, few_are_one, fragments_are_first, fragments_are_read,
-    fragments_fit, lists_ascend, order_says_nothing, same_content_is_written_alike,
+    fragments_fit, lists_ascend, merging_is_exact, order_says_nothing,
+    same_content_is_written_alike,
 };
 pub use local::{AREAS_AND_PROTOCOLS, BridgeConfigFacts, Local};
+pub use merging::merge;
 
 mod backbone;
 mod content;
