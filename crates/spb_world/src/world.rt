@@ -1,5 +1,5 @@
 //! The world of declarations: what is declared and attached, why more can't be, and the tables of the wiring.
-ghost use Rattle.std.specs.Prelude.{◌≡◌, [], ◌∷◌, ◌++◌, true, None, OnOk, OnErr};
+ghost use Rattle.std.specs.Prelude.{◌≡◌, [], ◌∷◌, ◌++◌, true, None, IfOk, OnOk, OnErr};
 ghost use Rattle.spb_world.specs.Declaring.{is_new_name, switched, links_with_metric};
 
 use crate::attached::Attached;
@@ -79,6 +79,21 @@ impl World {
             hints: Hints::new(alloc),
             fabric: None,
         }
+    }
+
+    /// A copy, in which no fabric of the wiring is kept.
+    pub(crate) fn copied(&self, alloc: Global) -> Result<World, NoMemory>
+        ensures { IfOk result (λ world. world ≡ self.now) }
+    {
+        Ok(World {
+            vids: Vec::from_slice(alloc, self.vids.as_slice())?,
+            bridges: copied(&self.bridges)?,
+            links: copied(&self.links)?,
+            services: copied_services(&self.services)?,
+            attached: self.attached.copied()?,
+            hints: self.hints.copied(alloc)?,
+            fabric: None,
+        })
     }
 
     /// The base VIDs, in order of declaration.
@@ -635,6 +650,20 @@ impl World {
         self.fabric = None;
         set_end_metric(&mut self.links, place, side, metric);
     }
+}
+
+/// A copy of what is declared under names.
+fn copied<T: Copy>(things: &IndexMap<Name, T>) -> Result<IndexMap<Name, T>, NoMemory>
+    ensures { IfOk result (λ copy. copy.entries ≡ things.now.entries) }
+{
+    Ok(things.clone()?)
+}
+
+/// A copy of the services.
+fn copied_services(services: &IndexMap<Isid, Vid>) -> Result<IndexMap<Isid, Vid>, NoMemory>
+    ensures { IfOk result (λ copy. copy.entries ≡ services.now.entries) }
+{
+    Ok(services.clone()?)
 }
 
 /// Puts a thing of a new name behind the others. After NoMemory nothing changed.
