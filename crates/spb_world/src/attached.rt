@@ -119,10 +119,7 @@ fn push_at(
 }
 
 /// A copy of the lists.
-fn copied_lists(
-    alloc: Global,
-    lists: &[Vec<Attachment>],
-) -> Result<Vec<Vec<Attachment>>, NoMemory>
+fn copied_lists(alloc: Global, lists: &[Vec<Attachment>]) -> Result<Vec<Vec<Attachment>>, NoMemory>
     ensures { IfOk result (λ copy. lists_in copy.items ≡ lists_in lists.now) }
 {
     let mut copy = Vec::with_capacity(alloc, lists.len())?;

@@ -39,7 +39,7 @@ impl World {
     }
 
     /// An end of the link of a name gets this metric.
-    #[tactic(auto, unfolding(crate::specs::Naming::metric_refusal))]
+    #[tactic(auto, using(crate::proofs::RefusalLemmas::metric_refusal_none))]
     fn set_link_metric(&mut self, link: Name, side: Side, metric: u64)
         requires { metric_refusal self.old link metric ≡ None }
         ensures { self.new ≡ changing.with_link_changed (declare.with_end_metric side metric self.old) self.old link }

@@ -82,13 +82,13 @@ impl World {
     }
 
     /// A copy, in which no fabric of the wiring is kept.
-    pub(crate) fn copied(&self, alloc: Global) -> Result<World, NoMemory>
+    pub fn copied(&self, alloc: Global) -> Result<World, NoMemory>
         ensures { IfOk result (λ world. world ≡ self.now) }
     {
         Ok(World {
             vids: Vec::from_slice(alloc, self.vids.as_slice())?,
-            bridges: copied(&self.bridges)?,
-            links: copied(&self.links)?,
+            bridges: copied_bridges(&self.bridges)?,
+            links: copied_links(&self.links)?,
             services: copied_services(&self.services)?,
             attached: self.attached.copied()?,
             hints: self.hints.copied(alloc)?,
@@ -652,11 +652,22 @@ impl World {
     }
 }
 
-/// A copy of what is declared under names.
-fn copied<T: Copy>(things: &IndexMap<Name, T>) -> Result<IndexMap<Name, T>, NoMemory>
-    ensures { IfOk result (λ copy. copy.entries ≡ things.now.entries) }
+/// A copy of the bridges.
+fn copied_bridges(
+    bridges: &IndexMap<Name, DeclaredBridge>,
+) -> Result<IndexMap<Name, DeclaredBridge>, NoMemory>
+    ensures { IfOk result (λ copy. copy.entries ≡ bridges.now.entries) }
 {
-    Ok(things.clone()?)
+    Ok(bridges.clone()?)
+}
+
+/// A copy of the links.
+fn copied_links(
+    links: &IndexMap<Name, DeclaredLink>,
+) -> Result<IndexMap<Name, DeclaredLink>, NoMemory>
+    ensures { IfOk result (λ copy. copy.entries ≡ links.now.entries) }
+{
+    Ok(links.clone()?)
 }
 
 /// A copy of the services.
