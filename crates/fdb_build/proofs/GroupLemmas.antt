@@ -16,6 +16,7 @@ use Rattle.spb_types.specs.declared.graph.Graph.{Graph}
 use Rattle.spb_types.specs.declared.graph.GraphBridge.{GraphBridge}
 use Rattle.spb_types.specs.declared.graph.Member.{Member}
 use Rattle.spb_types.specs.declared.ports.PortSet.{PortSet}
+use Rattle.spb_types.specs.declared.service.Isid.{Isid}
 use Rattle.spb_types.specs.declared.service.Vid.{Vid}
 use Rattle.spb_types.specs.declared.service.VidPlan.{VidPlan}
 use Rattle.spb_types.specs.declared.tables.GroupRow.{GroupRow}
@@ -29,7 +30,7 @@ use Rattle.ect_trees.proofs.Placing.{ids_tied}
 use Rattle.ect_trees.proofs.Reached.{path_reached, looks_back, looks_on}
 use Rattle.ect_trees.proofs.Walks.{path_end}
 use Rattle.fdb_build.specs.Tables.{ascending_by, mac_cmp, vid_cmp, AscendsBy}
-use Rattle.fdb_build.specs.Groups.{Follows, LeadsOn, IsGroupPort, group_cmp, ListPorts, leads_on, ports_to, group_row, put_once, each_once, group_addresses, group_rows_of_vid, group_rows, GroupRowsAreTable, GroupTableIsOne, SameGroups, OrderSaysNothingOfGroups}
+use Rattle.fdb_build.specs.Groups.{Sends, Receives, Follows, LeadsOn, IsGroupPort, group_cmp, ListPorts, leads_on, ports_to, group_row, put_once, each_once, group_addresses, group_rows_of_vid, group_rows, GroupRowsAreTable, GroupTableIsOne, SameGroups, OrderSaysNothingOfGroups}
 use Rattle.fdb_build.proofs.AscendLemmas.{All-has, ascending_has, has_ascending, below_from_above, Ascends-one, Ascends-filter_map, Ascends-flat_map, filter_map_has, has_filter_map, flat_map_has}
 use Rattle.fdb_build.proofs.RowLemmas.{All-map, port_among-le, port_among-low}
 use Rattle.fdb_build.proofs.SortLemmas.{vids_total}
@@ -174,12 +175,13 @@ for_row g me plan mac p h = by (s.bits == 0) refl
 -- the address of what leads on is one of the graph's
 address_there : (g : Graph) (me : SystemId) (plan : VidPlan) (mac : Mac) (p : ℕ) → LeadsOn g me plan mac p → Has mac (group_addresses g)
 address_there g me plan mac p l =
-    let m : Member = record { system = l.serves.receiver; isid = l.isid; vid = plan.vid } in
-    subst (λ z. Has z (group_addresses g)) (sym l.address)
-    (each_once_has mac_cmp macs_tied (group_address l.source.source.value l.isid.value) (flat_map (λ (b : GraphBridge). map (λ (n : Member). group_address b.source.value n.isid.value) g.members) g.bridges)
-    (has_flat_map (λ (b : GraphBridge). map (λ (n : Member). group_address b.source.value n.isid.value) g.members) l.source (group_address l.source.source.value l.isid.value) g.bridges
+    let m : Member = l.serves.takes.member in
+    let address : group_address l.source.source.value m.isid.value ≡ mac = ap (λ (i : Isid). group_address l.source.source.value i.value) l.serves.takes.in_service ∙ sym l.address in
+    subst (λ z. Has z (group_addresses g)) address
+    (each_once_has mac_cmp macs_tied (group_address l.source.source.value m.isid.value) (flat_map (λ (b : GraphBridge). map (λ (n : Member). group_address b.source.value n.isid.value) g.members) g.bridges)
+    (has_flat_map (λ (b : GraphBridge). map (λ (n : Member). group_address b.source.value n.isid.value) g.members) l.source (group_address l.source.source.value m.isid.value) g.bridges
     (has_from_contains g.bridges l.source l.bridge)
-    (has_map (λ (n : Member). group_address l.source.source.value n.isid.value) m g.members (has_from_contains g.members m l.serves.takes))))
+    (has_map (λ (n : Member). group_address l.source.source.value n.isid.value) m g.members (has_from_contains g.members m l.serves.takes.there))))
 
 same_then : (n : ℕ) (o : Ordering) → ordering_then (nat_cmp n n) o ≡ o
 same_then n o = ap (λ c. ordering_then c o) (tied_itself nat_cmp_total n)
@@ -360,6 +362,27 @@ between g mask s r me next valid f =
       receiver = path_reached g me r r (me ∷ next ∷ f.after) back.path (path_end g me r (me ∷ next ∷ f.after) back.path);
     }
 
+-- whoever is reached sends in both, and receives
+sends_there : (g h : Graph) (me : SystemId) (isid : Isid) (vid : Vid) (x : SystemId) → LookAlike g h me → IsReached g me x → Sends g isid vid x → Sends h isid vid x
+sends_there g h me isid vid x s reached is = record {
+  member = is.member;
+  there = (s.members is.member (subst (IsReached g me) (sym is.of_system) reached)).0 is.there;
+  of_system = is.of_system;
+  in_service = is.in_service;
+  in_vid = is.in_vid;
+  transmits = is.transmits;
+}
+
+receives_there : (g h : Graph) (me : SystemId) (isid : Isid) (vid : Vid) (x : SystemId) → LookAlike g h me → IsReached g me x → Receives g isid vid x → Receives h isid vid x
+receives_there g h me isid vid x s reached is = record {
+  member = is.member;
+  there = (s.members is.member (subst (IsReached g me) (sym is.of_system) reached)).0 is.there;
+  of_system = is.of_system;
+  in_service = is.in_service;
+  in_vid = is.in_vid;
+  receives = is.receives;
+}
+
 leads_there : (g h : Graph) (me : SystemId) (plan : VidPlan) (mac : Mac) (p : ℕ) → IsValid g → IsValid h → LookAlike g h me → LeadsOn g me plan mac p → LeadsOn h me plan mac p
 leads_there g h me plan mac p v w s l =
     let mask = mask_of plan.ect in
@@ -376,11 +399,11 @@ leads_there g h me plan mac p v w s l =
       next = l.next;
       bridge = (s.bridges l.source ends.source).0 l.bridge;
       address = l.address;
-      sends = (s.members (record { system = x; isid = l.isid; vid = plan.vid }) ends.source).0 l.sends;
+      sends = sends_there g h me l.isid plan.vid x s ends.source l.sends;
       serves = record {
         receiver = l.serves.receiver;
         other = l.serves.other;
-        takes = (s.members (record { system = l.serves.receiver; isid = l.isid; vid = plan.vid }) ends.receiver).0 l.serves.takes;
+        takes = receives_there g h me l.isid plan.vid l.serves.receiver s ends.receiver l.serves.takes;
         follows = record { before = f.before; after = f.after; best = best };
       };
       port_is = sym (s.ports me l.next here) ∙ l.port_is;

@@ -20,7 +20,7 @@ use Rattle.ect_trees.proofs.Among.{same_is, same_self, among_right}
 use Rattle.ect_trees.proofs.Exists.{best_of_some}
 use Rattle.ect_trees.proofs.Members.{Has, has_from_contains, contains_from_has}
 use Rattle.ect_trees.proofs.Walks.{path_distinct}
-use Rattle.fdb_build.specs.Groups.{Sends, Follows, LeadsOn, is_member, sends_in, receives_in, after_in, port_after, is_that, serves, leads_on}
+use Rattle.fdb_build.specs.Groups.{Sends, Receives, Follows, LeadsOn, is_member, sends_in, receives_in, after_in, port_after, is_that, serves, leads_on}
 
 -- some item passes a test
 pub any_has : {X : Type 0} (test : X → Bool) (xs : List X) → list_any test xs ≡ true → (x : X) × Has x xs × (test x ≡ true)
@@ -45,28 +45,50 @@ both b c e f = ap (λ x. x && c) e ∙ f
 
 -- ---- members
 
-abbrev member_of : Isid → Vid → SystemId → Member
-member_of isid vid x = record { system = x; isid = isid; vid = vid }
+-- its names are these
+record IsNamed (isid : Isid) (vid : Vid) (x : SystemId) (m : Member) : Type 0 where
+  of_system : m.system ≡ x
+  in_service : m.isid ≡ isid
+  in_vid : m.vid ≡ vid
 
-member_is : (isid : Isid) (vid : Vid) (x : SystemId) (m : Member) → is_member isid vid x m ≡ true → m ≡ member_of isid vid x
-member_is isid vid x m h =
+member_named : (isid : Isid) (vid : Vid) (x : SystemId) (m : Member) → is_member isid vid x m ≡ true → IsNamed isid vid x m
+member_named isid vid x m h =
     let one = and_parts (same_system m.system x) _ h in
     let two = and_parts (m.isid.value == isid.value) (m.vid.value == vid.value) one.1 in
-    let system : m.system ≡ x = same_is m.system x one.0 in
     let service : m.isid.value ≡ isid.value = eqb-true m.isid.value isid.value two.0 in
     let base : m.vid.value ≡ vid.value = eqb-true m.vid.value vid.value two.1 in
-    λ i. record { system = system i; isid = record { value = service i }; vid = record { value = base i } }
+    record { of_system = same_is m.system x one.0; in_service = λ i. record { value = service i }; in_vid = λ i. record { value = base i } }
 
-is_itself : (isid : Isid) (vid : Vid) (x : SystemId) → is_member isid vid x (member_of isid vid x) ≡ true
-is_itself isid vid x = both (same_system x x) _ (same_self x) (both (isid.value == isid.value) _ (eq-eqb isid.value isid.value refl) (eq-eqb vid.value vid.value refl))
+named_member : (isid : Isid) (vid : Vid) (x : SystemId) (m : Member) → m.system ≡ x → m.isid ≡ isid → m.vid ≡ vid → is_member isid vid x m ≡ true
+named_member isid vid x m system service base =
+    both (same_system m.system x) _ (ap (same_system m.system) (sym system) ∙ same_self m.system)
+    (both _ _ (eq-eqb m.isid.value isid.value (ap (λ (i : Isid). i.value) service)) (eq-eqb m.vid.value vid.value (ap (λ (v : Vid). v.value) base)))
 
 pub sends_is : (g : Graph) (isid : Isid) (vid : Vid) (x : SystemId) → sends_in g isid vid x ≡ true → Sends g isid vid x
 sends_is g isid vid x h =
-    let one = any_has (is_member isid vid x) g.members h in
-    contains_from_has g.members (member_of isid vid x) (subst (λ m. Has m g.members) (member_is isid vid x one.0 one.2) one.1)
+    let one = any_has (λ m. is_member isid vid x m && m.transmit) g.members h in
+    let m : Member = one.0 in
+    let parts = and_parts (is_member isid vid x m) m.transmit one.2 in
+    let named = member_named isid vid x m parts.0 in
+    record { member = m; there = contains_from_has g.members m one.1; of_system = named.of_system; in_service = named.in_service; in_vid = named.in_vid; transmits = parts.1 }
 
 pub is_sends : (g : Graph) (isid : Isid) (vid : Vid) (x : SystemId) → Sends g isid vid x → sends_in g isid vid x ≡ true
-is_sends g isid vid x h = has_any (is_member isid vid x) (member_of isid vid x) g.members (has_from_contains g.members (member_of isid vid x) h) (is_itself isid vid x)
+is_sends g isid vid x h =
+    has_any (λ m. is_member isid vid x m && m.transmit) h.member g.members (has_from_contains g.members h.member h.there)
+    (both _ _ (named_member isid vid x h.member h.of_system h.in_service h.in_vid) h.transmits)
+
+pub receives_is : (g : Graph) (isid : Isid) (vid : Vid) (x : SystemId) → receives_in g isid vid x ≡ true → Receives g isid vid x
+receives_is g isid vid x h =
+    let one = any_has (λ m. is_member isid vid x m && m.receive) g.members h in
+    let m : Member = one.0 in
+    let parts = and_parts (is_member isid vid x m) m.receive one.2 in
+    let named = member_named isid vid x m parts.0 in
+    record { member = m; there = contains_from_has g.members m one.1; of_system = named.of_system; in_service = named.in_service; in_vid = named.in_vid; receives = parts.1 }
+
+pub is_receives : (g : Graph) (isid : Isid) (vid : Vid) (x : SystemId) → Receives g isid vid x → receives_in g isid vid x ≡ true
+is_receives g isid vid x h =
+    has_any (λ m. is_member isid vid x m && m.receive) h.member g.members (has_from_contains g.members h.member h.there)
+    (both _ _ (named_member isid vid x h.member h.of_system h.in_service h.in_vid) h.receives)
 
 -- ---- the bridge that follows
 
@@ -159,7 +181,7 @@ test_leads g me plan mac port valid h =
       serves = record {
         receiver = m.system;
         other = λ e. true≢false (sym (same_self s.id.system) ∙ (ap (λ x. same_system x s.id.system) (sym e) ∙ not_true (same_system m.system s.id.system) four.0));
-        takes = sends_is g m.isid plan.vid m.system three.0;
+        takes = receives_is g m.isid plan.vid m.system three.0;
         follows = on.follows;
       };
       port_is = on.leads;
@@ -168,12 +190,20 @@ test_leads g me plan mac port valid h =
 pub leads_test : (g : Graph) (me : SystemId) (plan : VidPlan) (mac : Mac) (port : ℕ) → IsValid g → LeadsOn g me plan mac port → leads_on g me plan mac port ≡ true
 leads_test g me plan mac port valid l =
     has_any (λ s. list_any (serves g me plan mac port s) g.members) l.source g.bridges (has_from_contains g.bridges l.source l.bridge)
-    (has_any (serves g me plan mac port l.source) m g.members (has_from_contains g.members m l.serves.takes)
-    (both _ _ ((bytes_eq-Decides _ _).1 (ap (λ (a : Mac). a.bytes) l.address))
+    (has_any (serves g me plan mac port l.source) takes.member g.members (has_from_contains g.members takes.member takes.there)
+    ((λ i. passes (takes.of_system i) (takes.in_service i))
+    ∙ both _ _ ((bytes_eq-Decides _ _).1 (ap (λ (a : Mac). a.bytes) l.address))
     (both _ _ (is_sends g l.isid plan.vid l.source.id.system l.sends)
-    (both _ _ (is_sends g l.isid plan.vid l.serves.receiver l.serves.takes)
+    (both _ _ (is_receives g l.isid plan.vid l.serves.receiver takes)
     (both _ _ (ap not (not_same l.serves.receiver l.source.id.system l.serves.other))
     (ap (is_that port) (onward_after g (mask_of plan.ect) l.source.id.system l.serves.receiver me port valid (record { next = l.next; follows = l.serves.follows; leads = l.port_is })) ∙ eq-eqb port port refl))))))
   where
-    m : Member
-    m = member_of l.isid plan.vid l.serves.receiver
+    takes : Receives g l.isid plan.vid l.serves.receiver
+    takes = l.serves.takes
+
+    passes : SystemId → Isid → Bool
+    passes r isid =
+        bytes_eq mac.bytes (group_address l.source.source.value isid.value).bytes
+        && (sends_in g isid plan.vid l.source.id.system && (receives_in g isid plan.vid r
+        && (not (same_system r l.source.id.system)
+        && is_that port (port_after g (mask_of plan.ect) l.source.id.system r me))))

@@ -16,6 +16,7 @@ use Rattle.spb_types.specs.declared.graph.GraphBridge.{GraphBridge}
 use Rattle.spb_types.specs.declared.graph.Member.{Member}
 use Rattle.spb_types.specs.declared.ports.PortSet.{PortSet}
 use Rattle.spb_types.specs.declared.service.Isid.{Isid}
+use Rattle.spb_types.specs.declared.service.Vid.{Vid}
 use Rattle.spb_types.specs.declared.service.VidPlan.{VidPlan}
 use Rattle.ect_trees.proofs.Among.{same_is, same_self}
 use Rattle.ect_trees.proofs.Extended.{at_same}
@@ -79,7 +80,7 @@ module _ (g : Graph) (me : SystemId) (plan : VidPlan) (s : Services) (valid : Is
 
   -- the list at its place has what it sends to
   sends_by : (x : SystemId) (place : ℕ) (isid : Isid) → place_of g x ≡ Some place → list_any (same_isid isid) (sent_by s (place_of g x)) ≡ sends_in g isid plan.vid x
-  sends_by x place isid e = ap (λ o. list_any (same_isid isid) (sent_by s o)) e ∙ (services.sends isid place ∙ ap (λ (t : Member → Bool). list_any t g.members) (λ i m. each m i))
+  sends_by x place isid e = ap (λ o. list_any (same_isid isid) (sent_by s o)) e ∙ (services.sends isid place ∙ ap (λ (t : Member → Bool). list_any t g.members) (λ i m. each m i && m.transmit))
     where
       it : (m : Member) → is_at place (place_of g m.system) ≡ true → same_system m.system x ≡ true
       it m h = subst (λ t. same_system m.system t ≡ true) (at_same g place m.system x (found_place g m.system place (at_is place (place_of g m.system) h)) (found_place g x place e)) (same_self m.system)
@@ -96,6 +97,7 @@ module _ (g : Graph) (me : SystemId) (plan : VidPlan) (s : Services) (valid : Is
     here : Has member g.members
     service : member.isid.value ≡ isid.value
     base : member.vid.value ≡ plan.vid.value
+    takes : member.receive ≡ true
     after : port_after g (mask_of plan.ect) b.id.system member.system me ≡ Some p
 
   towards_found : (b : GraphBridge) (isid : Isid) (p : ℕ) → is_towards (sets_from g me plan b.id.system) (list_at isid_cmp s.receivers isid) p ≡ true → Found b isid p
@@ -103,9 +105,10 @@ module _ (g : Graph) (me : SystemId) (plan : VidPlan) (s : Services) (valid : Is
       let sets : List PortSet = sets_from g me plan b.id.system in
       let one = any_has (λ place. has (set_at sets place) p) (list_at isid_cmp s.receivers isid) h in
       let listed : list_any (same_place one.0) (list_at isid_cmp s.receivers isid) ≡ true = has_any (same_place one.0) one.0 (list_at isid_cmp s.receivers isid) one.1 (eq-eqb one.0 one.0 refl) in
-      let m = any_has (is_member_at g isid plan.vid one.0) g.members (sym (services.receives isid one.0) ∙ listed) in
+      let m = any_has (λ n. is_member_at g isid plan.vid one.0 n && n.receive) g.members (sym (services.receives isid one.0) ∙ listed) in
       let member : Member = m.0 in
-      let parts = and_parts (is_at one.0 (place_of g member.system)) _ m.2 in
+      let flagged = and_parts (is_member_at g isid plan.vid one.0 member) member.receive m.2 in
+      let parts = and_parts (is_at one.0 (place_of g member.system)) _ flagged.0 in
       let names = and_parts (member.isid.value == isid.value) (member.vid.value == plan.vid.value) parts.1 in
       let f : SystemId → PortSet = λ r. port_set (port_after g (mask_of plan.ect) b.id.system r me) in
       let set : set_at sets one.0 ≡ f member.system = set_there f g.bridges one.0 member.system (found_place g member.system one.0 (at_is one.0 (place_of g member.system) parts.0)) in
@@ -114,6 +117,7 @@ module _ (g : Graph) (me : SystemId) (plan : VidPlan) (s : Services) (valid : Is
         here = m.1;
         service = eqb-true member.isid.value isid.value names.0;
         base = eqb-true member.vid.value plan.vid.value names.1;
+        takes = flagged.1;
         after = set_has (port_after g (mask_of plan.ect) b.id.system member.system me) p (range (mask_of plan.ect) b.id.system member.system) (ap (λ (t : PortSet). has t p) (sym set) ∙ one.2);
       }
 
@@ -128,7 +132,6 @@ module _ (g : Graph) (me : SystemId) (plan : VidPlan) (s : Services) (valid : Is
       let f = towards_found b isid p parts.1 in
       let on = after_onward g (mask_of plan.ect) b.id.system f.member.system me p valid f.after in
       let bytes : q.bytes ≡ (group_address b.source.value isid.value).bytes = (bytes_eq-Decides _ _).0 parts.0 in
-      let is : f.member ≡ record { system = f.member.system; isid = isid; vid = plan.vid } = λ i. record { system = f.member.system; isid = record { value = f.service i }; vid = record { value = f.base i } } in
       record {
         source = b;
         isid = isid;
@@ -139,7 +142,14 @@ module _ (g : Graph) (me : SystemId) (plan : VidPlan) (s : Services) (valid : Is
         serves = record {
           receiver = f.member.system;
           other = λ e. none_follows g (mask_of plan.ect) b.id.system me on.next (subst (λ r. Follows g (mask_of plan.ect) b.id.system r me on.next) e on.follows);
-          takes = contains_from_has g.members (record { system = f.member.system; isid = isid; vid = plan.vid }) (subst (λ (m : Member). Has m g.members) is f.here);
+          takes = record {
+            member = f.member;
+            there = contains_from_has g.members f.member f.here;
+            of_system = refl;
+            in_service = λ i. record { value = f.service i };
+            in_vid = λ i. record { value = f.base i };
+            receives = f.takes;
+          };
           follows = on.follows;
         };
         port_is = on.leads;
@@ -182,13 +192,13 @@ module _ (g : Graph) (me : SystemId) (plan : VidPlan) (s : Services) (valid : Is
           subst (λ i. Has i (sent_by s (place_of g l.source.id.system))) same one.1
 
       m : Member
-      m = record { system = l.serves.receiver; isid = l.isid; vid = plan.vid }
+      m = l.serves.takes.member
 
       here : Has m g.members
-      here = has_from_contains g.members m l.serves.takes
+      here = has_from_contains g.members m l.serves.takes.there
 
       at : (place : ℕ) × (place_of g l.serves.receiver ≡ Some place)
-      at = by (place_of g l.serves.receiver) refl (place_found g l.serves.receiver (All-has (λ (n : Member). IsBridge g n.system) g.members valid.members m here))
+      at = by (place_of g l.serves.receiver) refl (place_found g l.serves.receiver (subst (IsBridge g) l.serves.takes.of_system (All-has (λ (n : Member). IsBridge g n.system) g.members valid.members m here)))
         where
           by : (o : Option ℕ) → place_of g l.serves.receiver ≡ o → IsSome o → (place : ℕ) × (place_of g l.serves.receiver ≡ Some place)
           by None e h = cc
@@ -199,8 +209,10 @@ module _ (g : Graph) (me : SystemId) (plan : VidPlan) (s : Services) (valid : Is
 
       received : Has at.0 (list_at isid_cmp s.receivers l.isid)
       received =
-          let stands : is_member_at g l.isid plan.vid at.0 m ≡ true = both _ _ (ap (is_at at.0) at.1 ∙ eq-eqb at.0 at.0 refl) (both _ _ (eq-eqb l.isid.value l.isid.value refl) (eq-eqb plan.vid.value plan.vid.value refl)) in
-          let one = any_has (same_place at.0) (list_at isid_cmp s.receivers l.isid) (services.receives l.isid at.0 ∙ has_any (is_member_at g l.isid plan.vid at.0) m g.members here stands) in
+          let service : m.isid.value ≡ l.isid.value = ap (λ (i : Isid). i.value) l.serves.takes.in_service in
+          let base : m.vid.value ≡ plan.vid.value = ap (λ (v : Vid). v.value) l.serves.takes.in_vid in
+          let stands : is_member_at g l.isid plan.vid at.0 m ≡ true = both _ _ (ap (is_at at.0) (ap (place_of g) l.serves.takes.of_system ∙ at.1) ∙ eq-eqb at.0 at.0 refl) (both _ _ (eq-eqb m.isid.value l.isid.value service) (eq-eqb m.vid.value plan.vid.value base)) in
+          let one = any_has (same_place at.0) (list_at isid_cmp s.receivers l.isid) (services.receives l.isid at.0 ∙ has_any (λ n. is_member_at g l.isid plan.vid at.0 n && n.receive) m g.members here (both _ _ stands l.serves.takes.receives)) in
           subst (λ i. Has i (list_at isid_cmp s.receivers l.isid)) (eqb-true one.0 at.0 one.2) one.1
 
       set : set_at sets at.0 ≡ port_set (port_after g (mask_of plan.ect) l.source.id.system l.serves.receiver me)

@@ -1,11 +1,10 @@
 -- The members of the services of a VID, one after another.
-use Rattle.std.specs.Prelude.{ℕ, zero, suc, replicate, ◌≡◌, ◌<◌, ◌+◌, ◌-◌, ◌==◌, Bool, true, false, not, ◌&&◌, ◌||◌, if◌then◌else◌, List, [], ◌∷◌, ◌++◌, length, take, Some, None, Result, Ok, Err, OnOk, slice_get}
+use Rattle.std.specs.Prelude.{ℕ, zero, suc, replicate, ◌≡◌, ◌<◌, ◌+◌, ◌==◌, Bool, true, false, not, ◌&&◌, ◌||◌, if◌then◌else◌, List, [], ◌∷◌, ◌++◌, length, take, Some, None, Result, Ok, Err, OnOk}
 use Rattle.std.specs.Global.{Vec}
 use Rattle.std.specs.List.{list_any}
 use Rattle.std.specs.Ordering.{nat_cmp, is_eq}
 use Rattle.std.specs.declared.cmp.Ordering.{Ordering}
 use Rattle.std.proofs.Common.{arith, refl, sym, ap, ◌∙◌, subst, get_or, true≢false, Less, Equal, Greater, eq-eqb, eqb-true}
-use Rattle.std.proofs.lemmas.Bool.{and_parts}
 use Rattle.std.proofs.lemmas.Cmp.{nat_cmp_total, tied_itself}
 use Rattle.std.proofs.Math.ListN.{set}
 use Rattle.std.proofs.lemmas.List.{length-map, length-set, length-replicate, map-append, map-set, replicate_more, get_or-map, get_or-set_same, get_or-set_other}
@@ -15,7 +14,7 @@ use Rattle.spb_types.specs.declared.graph.Member.{Member}
 use Rattle.spb_types.specs.declared.service.Isid.{Isid}
 use Rattle.spb_types.specs.declared.service.Vid.{Vid}
 use Rattle.ect_trees.proofs.Placing.{nat_tied}
-use Rattle.fdb_build.specs.Making.{isid_cmp, list_at, lists_in, sent_at, same_isid, same_place, place_of, is_at, is_member_at, Added, AreServicesOf, AreSendersReceivers}
+use Rattle.fdb_build.specs.Making.{isid_cmp, list_at, lists_in, sent_at, same_isid, same_place, place_of, is_at, is_member_at, Added, AreServicesOf}
 use Rattle.fdb_build.specs.declared.services.Services.{Services}
 use Rattle.fdb_build.proofs.PortSets.{same_truth}
 
@@ -37,15 +36,24 @@ and_false : (b : Bool) → (b && false) ≡ false
 and_false true = refl
 and_false false = refl
 
-and_true : (b : Bool) → (b && true) ≡ b
-and_true true = refl
-and_true false = refl
+-- of three tests, in another order
+sent_tests : (t a i : Bool) → ((t && a) && i) ≡ ((a && (i && true)) && t)
+sent_tests true true true = refl
+sent_tests true true false = refl
+sent_tests true false i = refl
+sent_tests false true true = refl
+sent_tests false true false = refl
+sent_tests false false i = refl
 
-swapped : (b c : Bool) → (b && c) ≡ (c && (b && true))
-swapped true true = refl
-swapped true false = refl
-swapped false true = refl
-swapped false false = refl
+received_tests : (t i a : Bool) → ((t && i) && a) ≡ ((a && (i && true)) && t)
+received_tests true true true = refl
+received_tests true true false = refl
+received_tests true false true = refl
+received_tests true false false = refl
+received_tests false true true = refl
+received_tests false true false = refl
+received_tests false false true = refl
+received_tests false false false = refl
 
 -- one item more in a list, or none
 any_put : {V : Type 0} (test : V → Bool) (b : Bool) (old new : List V) (item : V) → new ≡ (if b then old ++ item ∷ [] else old) → list_any test new ≡ (list_any test old || (b && test item))
@@ -64,55 +72,22 @@ on_ok (Err e) f h = h
 pub added_none : (g : Graph) (vid : Vid) (m : Member) (s : Services) → (m.vid.value == vid.value) ≡ false → Added g vid m s s
 added_none g vid m s other = record {
   places = refl;
-  sends = λ isid place. sym (ap (λ c. list_any (same_isid isid) (sent_at s place) || c) (no (is_at place (place_of g m.system)) (m.isid.value == isid.value)) ∙ or_false (list_any (same_isid isid) (sent_at s place)));
-  receives = λ isid place. sym (ap (λ c. list_any (same_place place) (list_at isid_cmp s.receivers isid) || c) (no (is_at place (place_of g m.system)) (m.isid.value == isid.value)) ∙ or_false (list_any (same_place place) (list_at isid_cmp s.receivers isid)));
+  sends = λ isid place. sym (ap (λ c. list_any (same_isid isid) (sent_at s place) || c) (no (is_at place (place_of g m.system)) (m.isid.value == isid.value) m.transmit) ∙ or_false (list_any (same_isid isid) (sent_at s place)));
+  receives = λ isid place. sym (ap (λ c. list_any (same_place place) (list_at isid_cmp s.receivers isid) || c) (no (is_at place (place_of g m.system)) (m.isid.value == isid.value) m.receive) ∙ or_false (list_any (same_place place) (list_at isid_cmp s.receivers isid)));
 }
   where
-    no : (b c : Bool) → (b && (c && (m.vid.value == vid.value))) ≡ false
-    no b c = ap (λ d. b && (c && d)) other ∙ (ap (λ d. b && d) (and_false c) ∙ and_false b)
+    no : (b c f : Bool) → ((b && (c && (m.vid.value == vid.value))) && f) ≡ false
+    no b c f = ap (λ d. (b && (c && d)) && f) other ∙ (ap (λ d. (b && d) && f) (and_false c) ∙ ap (λ d. d && f) (and_false b))
 
 -- its bridge stands nowhere
 pub added_nowhere : (g : Graph) (vid : Vid) (m : Member) (s : Services) → place_of g m.system ≡ None → Added g vid m s s
 added_nowhere g vid m s nowhere = record {
   places = refl;
   sends = λ isid place.
-      sym (ap (λ o. list_any (same_isid isid) (sent_at s place) || (is_at place o && ((m.isid.value == isid.value) && (m.vid.value == vid.value)))) nowhere ∙ or_false (list_any (same_isid isid) (sent_at s place)));
+      sym (ap (λ o. list_any (same_isid isid) (sent_at s place) || ((is_at place o && ((m.isid.value == isid.value) && (m.vid.value == vid.value))) && m.transmit)) nowhere ∙ or_false (list_any (same_isid isid) (sent_at s place)));
   receives = λ isid place.
-      sym (ap (λ o. list_any (same_place place) (list_at isid_cmp s.receivers isid) || (is_at place o && ((m.isid.value == isid.value) && (m.vid.value == vid.value)))) nowhere ∙ or_false (list_any (same_place place) (list_at isid_cmp s.receivers isid)));
+      sym (ap (λ o. list_any (same_place place) (list_at isid_cmp s.receivers isid) || ((is_at place o && ((m.isid.value == isid.value) && (m.vid.value == vid.value))) && m.receive)) nowhere ∙ or_false (list_any (same_place place) (list_at isid_cmp s.receivers isid)));
 }
-
--- a place that is read in a list is in it
-any_at : (place : ℕ) (l : List ℕ) (i : ℕ) → is_at place (slice_get l i) ≡ true → list_any (same_place place) l ≡ true
-any_at place [] i h = absurd (true≢false (sym h))
-any_at place (x ∷ l) zero h = ap (λ b. b || list_any (same_place place) l) h
-any_at place (x ∷ l) (suc i) h = or_right (x == place) (list_any (same_place place) l) (any_at place l i h)
-  where
-    or_right : (b c : Bool) → c ≡ true → (b || c) ≡ true
-    or_right true c k = refl
-    or_right false c k = k
-
-or_known : (b c : Bool) → (c ≡ true → b ≡ true) → b ≡ (b || c)
-or_known true c h = refl
-or_known false true h = h refl
-or_known false false h = refl
-
--- the member was added before
-pub added_again : (g : Graph) (vid : Vid) (m : Member) (s : Services) (at : ℕ) → AreSendersReceivers s → Some at ≡ place_of g m.system
-    → is_at at (slice_get (list_at isid_cmp s.receivers m.isid) (length (list_at isid_cmp s.receivers m.isid) - 1)) ≡ true → Added g vid m s s
-added_again g vid m s at both there last = record {
-  places = refl;
-  sends = λ isid place. or_known (list_any (same_isid isid) (sent_at s place)) (is_member_at g isid vid place m) (λ h. both isid place ∙ receives isid place h);
-  receives = λ isid place. or_known (list_any (same_place place) (list_at isid_cmp s.receivers isid)) (is_member_at g isid vid place m) (receives isid place);
-}
-  where
-    receives : (isid : Isid) (place : ℕ) → is_member_at g isid vid place m ≡ true → list_any (same_place place) (list_at isid_cmp s.receivers isid) ≡ true
-    receives isid place h =
-        let tests = and_parts (is_at place (place_of g m.system)) ((m.isid.value == isid.value) && (m.vid.value == vid.value)) h in
-        let here : at ≡ place = eqb-true at place (ap (is_at place) there ∙ tests.0) in
-        let number : m.isid.value ≡ isid.value = eqb-true m.isid.value isid.value (and_parts (m.isid.value == isid.value) (m.vid.value == vid.value) tests.1).0 in
-        let same : m.isid ≡ isid = λ i. record { value = number i } in
-        let known : list_any (same_place at) (list_at isid_cmp s.receivers m.isid) ≡ true = any_at at (list_at isid_cmp s.receivers m.isid) (length (list_at isid_cmp s.receivers m.isid) - 1) last in
-        subst (λ p. list_any (same_place p) (list_at isid_cmp s.receivers isid) ≡ true) here (subst (λ (n : Isid). list_any (same_place at) (list_at isid_cmp s.receivers n) ≡ true) same known)
 
 abbrev list_items : Vec Isid → List Isid
 list_items v = v.items
@@ -128,26 +103,38 @@ list_more lists at item place low = by (at == place) refl
     by true e = subst (λ p. get_or (set lists at longer) p [] ≡ get_or lists p [] ++ item ∷ []) (eqb-true at place e) (get_or-set_same lists at longer [] low)
     by false e = get_or-set_other lists at place longer [] (λ h. true≢false (sym (eq-eqb at place (sym h)) ∙ e))
 
+-- or none did
+list_more_if : (sent : Bool) (lists new : List (List Isid)) (at : ℕ) (item : Isid) (place : ℕ) → at < length lists → new ≡ (if sent then set lists at (get_or lists at [] ++ item ∷ []) else lists)
+    → get_or new place [] ≡ (if sent && (at == place) then get_or lists place [] ++ item ∷ [] else get_or lists place [])
+list_more_if true lists new at item place low e = ap (λ l. get_or l place []) e ∙ list_more lists at item place low
+list_more_if false lists new at item place low e = ap (λ l. get_or l place []) e
+
 -- the lists after one member more of this VID
 pub added : (g : Graph) (vid : Vid) (m : Member) (old new : Services) (at : ℕ) → (m.vid.value == vid.value) ≡ true → Some at ≡ place_of g m.system → at < length old.sends.items
-    → lists_in new.sends.items ≡ set (lists_in old.sends.items) at (get_or (lists_in old.sends.items) at [] ++ m.isid ∷ [])
-    → ((isid : Isid) → list_at isid_cmp new.receivers isid ≡ (if is_eq (isid_cmp m.isid isid) then list_at isid_cmp old.receivers isid ++ at ∷ [] else list_at isid_cmp old.receivers isid)) → Added g vid m old new
+    → lists_in new.sends.items ≡ (if m.transmit then set (lists_in old.sends.items) at (get_or (lists_in old.sends.items) at [] ++ m.isid ∷ []) else lists_in old.sends.items)
+    → ((isid : Isid) → list_at isid_cmp new.receivers isid ≡ (if m.receive && is_eq (isid_cmp m.isid isid) then list_at isid_cmp old.receivers isid ++ at ∷ [] else list_at isid_cmp old.receivers isid)) → Added g vid m old new
 added g vid m old new at same there low sends more = record {
-  places = sym (length-map new.sends.items list_items) ∙ (ap length sends ∙ (length-set (lists_in old.sends.items) at _ ∙ length-map old.sends.items list_items));
+  places = sym (length-map new.sends.items list_items) ∙ (ap length sends ∙ (length_if m.transmit (lists_in old.sends.items) ∙ length-map old.sends.items list_items));
   sends = λ isid place.
-      any_put (same_isid isid) (at == place) (sent_at old place) (sent_at new place) m.isid
-      (ap (λ lists. get_or lists place []) sends ∙ list_more (lists_in old.sends.items) at m.isid place (omega (arith, low, length-map old.sends.items list_items)))
+      any_put (same_isid isid) (m.transmit && (at == place)) (sent_at old place) (sent_at new place) m.isid
+      (list_more_if m.transmit (lists_in old.sends.items) (lists_in new.sends.items) at m.isid place (omega (arith, low, length-map old.sends.items list_items)) sends)
       ∙ ap (λ c. list_any (same_isid isid) (sent_at old place) || c)
-      (ap (λ c. (at == place) && c) (sym (ap (λ d. (m.isid.value == isid.value) && d) same ∙ and_true (m.isid.value == isid.value)))
-      ∙ ap (λ o. is_at place o && ((m.isid.value == isid.value) && (m.vid.value == vid.value))) there);
+      (sent_tests m.transmit (at == place) (m.isid.value == isid.value) ∙ known isid place m.transmit);
   receives = λ isid place.
-      any_put (same_place place) (is_eq (isid_cmp m.isid isid)) (list_at isid_cmp old.receivers isid) (list_at isid_cmp new.receivers isid) at (more isid)
+      any_put (same_place place) (m.receive && is_eq (isid_cmp m.isid isid)) (list_at isid_cmp old.receivers isid) (list_at isid_cmp new.receivers isid) at (more isid)
       ∙ ap (λ c. list_any (same_place place) (list_at isid_cmp old.receivers isid) || c)
-      (ap (λ b. b && (at == place)) (numbers_tie m.isid.value isid.value)
-      ∙ (swapped (m.isid.value == isid.value) (at == place)
-      ∙ (ap (λ o. is_at place o && ((m.isid.value == isid.value) && true)) there
-      ∙ ap (λ d. is_at place (place_of g m.system) && ((m.isid.value == isid.value) && d)) (sym same))));
+      (ap (λ b. (m.receive && b) && (at == place)) (numbers_tie m.isid.value isid.value)
+      ∙ (received_tests m.receive (m.isid.value == isid.value) (at == place) ∙ known isid place m.receive));
 }
+  where
+    length_if : (b : Bool) (lists : List (List Isid)) → length (if b then set lists at (get_or lists at [] ++ m.isid ∷ []) else lists) ≡ length lists
+    length_if true lists = length-set lists at _
+    length_if false lists = refl
+
+    known : (isid : Isid) (place : ℕ) (flag : Bool) → (((at == place) && ((m.isid.value == isid.value) && true)) && flag) ≡ (is_member_at g isid vid place m && flag)
+    known isid place flag =
+        ap (λ o. (is_at place o && ((m.isid.value == isid.value) && true)) && flag) there
+        ∙ ap (λ d. (is_at place (place_of g m.system) && ((m.isid.value == isid.value) && d)) && flag) (sym same)
 
 -- no member yet
 empty_list : (n i : ℕ) → get_or {A = List Isid} (replicate n []) i [] ≡ []
@@ -162,25 +149,20 @@ services_none g vid s sends none = record {
   receives = λ isid place. ap (list_any (same_place place)) (none isid);
 }
 
-pub services_both : (g : Graph) (ms : List Member) (vid : Vid) (s : Services) → AreServicesOf g ms vid s → AreSendersReceivers s
-services_both g ms vid s h isid place = h.sends isid place ∙ sym (h.receives isid place)
-
 -- one member more
 pub services_more : (g : Graph) (ms : List Member) (vid : Vid) (old new : Services) (i : ℕ) (m : Member) → i < length ms → (d : Member) → m ≡ get_or ms i d
     → Added g vid m old new → AreServicesOf g (take i ms) vid old → AreServicesOf g (take (i + 1) ms) vid new
 services_more g ms vid old new i m low d is a before = record {
   places = a.places ∙ before.places;
-  sends = λ isid place.
-      a.sends isid place
-      ∙ (ap (λ b. b || is_member_at g isid vid place m) (before.sends isid place)
-      ∙ (ap (λ (n : Member). list_any (is_member_at g isid vid place) (take i ms) || is_member_at g isid vid place n) is
-      ∙ sym (list_any_more (is_member_at g isid vid place) ms i d low)));
-  receives = λ isid place.
-      a.receives isid place
-      ∙ (ap (λ b. b || is_member_at g isid vid place m) (before.receives isid place)
-      ∙ (ap (λ (n : Member). list_any (is_member_at g isid vid place) (take i ms) || is_member_at g isid vid place n) is
-      ∙ sym (list_any_more (is_member_at g isid vid place) ms i d low)));
+  sends = λ isid place. one_more (λ n. is_member_at g isid vid place n && n.transmit) _ _ (a.sends isid place) (before.sends isid place);
+  receives = λ isid place. one_more (λ n. is_member_at g isid vid place n && n.receive) _ _ (a.receives isid place) (before.receives isid place);
 }
+  where
+    one_more : (test : Member → Bool) (was now : Bool) → now ≡ (was || test m) → was ≡ list_any test (take i ms) → now ≡ list_any test (take (i + 1) ms)
+    one_more test was now after known =
+        after ∙ (ap (λ b. b || test m) known
+        ∙ (ap (λ (n : Member). list_any test (take i ms) || test n) is
+        ∙ sym (list_any_more test ms i d low)))
 
 -- a list among others that gets one item more
 pub put_there : (lists : List (Vec Isid)) (i : ℕ) (old new : Vec Isid) (item : Isid) → i < length lists → old ≡ get_or lists i old → new.items ≡ old.items ++ item ∷ [] → lists_in (set lists i new) ≡ set (lists_in lists) i (get_or (lists_in lists) i [] ++ item ∷ [])

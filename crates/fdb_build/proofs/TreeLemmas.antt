@@ -118,8 +118,8 @@ valid_at g vids plan source isid x s = by (among_or_not x (systems_of g.bridges)
 follows_by : (g : Graph) (vids : List VidPlan) (plan : VidPlan) (source : GraphBridge) (isid : Isid) (m : SystemId) (p : ℕ) → IsService g vids plan source isid → IsGroupPort g m vids plan.vid (group_address source.source.value isid.value) p → (c : SystemId) × FollowsOnTree g plan source isid m c × (port_between g m c ≡ Some p)
 follows_by g vids plan source isid m p s i =
     let l = i.leads in
-    let high : isid.value ≤ GREATEST_ISID = s.isids (record { system = source.id.system; isid = isid; vid = plan.vid }) s.sends in
-    let other_high : l.isid.value ≤ GREATEST_ISID = s.isids (record { system = l.source.id.system; isid = l.isid; vid = i.plan.vid }) l.sends in
+    let high : isid.value ≤ GREATEST_ISID = subst (λ (i : Isid). i.value ≤ GREATEST_ISID) s.sends.in_service (s.isids s.sends.member s.sends.there) in
+    let other_high : l.isid.value ≤ GREATEST_ISID = subst (λ (n : Isid). n.value ≤ GREATEST_ISID) l.sends.in_service (s.isids l.sends.member l.sends.there) in
     let low : source.source.value < SOURCE_IDS = s.sources source s.bridge in
     let other_low : l.source.source.value < SOURCE_IDS = s.sources l.source l.bridge in
     let same = addresses_differ l.source.source.value source.source.value l.isid.value isid.value (omega (arith, other_low)) (omega (arith, low)) (omega (arith, other_high)) (omega (arith, high)) (sym l.address) in

@@ -1,5 +1,5 @@
 -- A service in a line of three bridges: what the first sends passes the second on its way to the third.
-use Rattle.std.specs.Prelude.{ℕ, ◌≡◌, ◌≢◌, ◌⊎◌, ◌≤◌, List, [], ◌∷◌, IsSome}
+use Rattle.std.specs.Prelude.{ℕ, ◌≡◌, ◌≢◌, ◌⊎◌, ◌≤◌, true, false, List, [], ◌∷◌, IsSome}
 use Rattle.std.proofs.Common.{refl, sym, ap, ◌∙◌, subst, inl, inr, arith, get_or}
 use Rattle.spb_types.specs.Graph.{IsBridge, IsValid, IsValidFor, cost_between}
 use Rattle.spb_types.specs.declared.address.SystemId.{SystemId}
@@ -32,14 +32,18 @@ service = record { value = 5 }
 abbrev plan : VidPlan
 plan = record { vid = record { value = 10 }; ect = 1 }
 
-abbrev member : ℕ → Member
-member n = record { system = system n; isid = service; vid = plan.vid }
+-- the first bridge of the line sends, and the third receives
+abbrev sender : Member
+sender = record { system = system 1; isid = service; vid = plan.vid; transmit = true; receive = false }
+
+abbrev receiver : Member
+receiver = record { system = system 3; isid = service; vid = plan.vid; transmit = false; receive = true }
 
 abbrev line : Graph
 line = record {
   bridges = bridge 1 ∷ bridge 2 ∷ bridge 3 ∷ [];
   edges = link 1 1 2 1 ∷ link 2 2 3 1 ∷ [];
-  members = member 1 ∷ member 3 ∷ [];
+  members = sender ∷ receiver ∷ [];
 }
 
 number : SystemId → ℕ
@@ -101,14 +105,14 @@ line_serves = record {
   plans = record { ects = ((omega arith, omega arith), tt); apart = (tt, tt) };
   planned = contains_from_has (plan ∷ []) plan (inl refl);
   bridge = contains_from_has line.bridges (bridge 1) (inl refl);
-  sends = contains_from_has line.members (member 1) (inl refl);
+  sends = record { member = sender; there = contains_from_has line.members sender (inl refl); of_system = refl; in_service = refl; in_vid = refl; transmits = refl };
   apart = λ a b at there e. (let one = by_source a (has_from_contains line.bridges a at) in let other = by_source b (has_from_contains line.bridges b there) in one.0 ∙ (ap bridge e ∙ sym other.0));
   sources = λ b at. (let low : b.source.value ≤ 3 = (by_source b (has_from_contains line.bridges b at)).1 in omega (arith, low));
   isids = λ m at. isid_there m (has_from_contains line.members m at);
 }
 
 third_takes : Receives line service plan.vid (system 3)
-third_takes = contains_from_has line.members (member 3) (inr (inl refl))
+third_takes = record { member = receiver; there = contains_from_has line.members receiver (inr (inl refl)); of_system = refl; in_service = refl; in_vid = refl; receives = refl }
 
 third_other : system 3 ≢ system 1
 third_other e = absurd (omega (arith, apart 3 1 e))

@@ -1,5 +1,5 @@
 //! The members of the services in a base VID, gathered once for all its trees.
-ghost use Rattle.std.specs.Prelude.{◌≡◌, ◌<◌, ◌-◌, ◌++◌, ◌∷◌, [], length, replicate, slice_get, OnOk, IfOk, if◌then◌else◌};
+ghost use Rattle.std.specs.Prelude.{◌≡◌, ◌<◌, ◌++◌, ◌∷◌, ◌&&◌, [], length, replicate, OnOk, IfOk, if◌then◌else◌};
 ghost use Rattle.std.specs.List.{slice_index_or, slice_set};
 ghost use Rattle.std.specs.Ordering.{is_eq};
 ghost use Rattle.spb_types.specs.Graph.{IsValid};
@@ -66,6 +66,38 @@ fn put<K: Ord + Drop, V: Drop>(
     Ok(())
 }
 
+/// Puts the service of a member behind those to which the bridge at a place sends, if the member transmits.
+fn put_sender(sends: &mut Vec<Vec<Isid>>, place: usize, member: Member) -> Result<(), NoMemory>
+    requires { place < length sends.old.items }
+    ensures { OnOk result (making.lists_in sends.new.items ≡ (if member.transmit
+        then slice_set (making.lists_in sends.old.items) place
+        (slice_index_or (making.lists_in sends.old.items) place [] ++ member.isid ∷ [])
+        else making.lists_in sends.old.items)) }
+{
+    if member.transmit {
+        return put_at(sends, place, member.isid);
+    }
+    Ok(())
+}
+
+/// Puts the place of a member's bridge behind those that receive from its service, if the member receives.
+fn put_receiver(
+    alloc: Global,
+    receivers: &mut BTreeMap<Isid, Vec<usize>>,
+    place: usize,
+    member: Member,
+) -> Result<(), NoMemory>
+    ensures { OnOk result ((q : Isid) → making.list_at making.isid_cmp receivers.new q
+        ≡ (if member.receive && is_eq (making.isid_cmp member.isid q)
+        then making.list_at making.isid_cmp receivers.old q ++ place ∷ []
+        else making.list_at making.isid_cmp receivers.old q)) }
+{
+    if member.receive {
+        return put(alloc, receivers, member.isid, place);
+    }
+    Ok(())
+}
+
 impl Services {
     /// Adds a member, if it is in this VID: to the senders, to the receivers, or to both.
     fn add(
@@ -85,13 +117,8 @@ impl Services {
         let Some(place) = roads.place_of(member.system) else {
             return Ok(());
         };
-        if member.transmit {
-            put_at(&mut self.sends, place, member.isid)?;
-        }
-        if member.receive {
-            put(alloc, &mut self.receivers, member.isid, place)?;
-        }
-        Ok(())
+        put_sender(&mut self.sends, place, member)?;
+        put_receiver(alloc, &mut self.receivers, place, member)
     }
 
     /// The services of the graph's members in this VID.

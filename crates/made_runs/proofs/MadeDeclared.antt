@@ -1,6 +1,7 @@
 -- What a script that is made declares is accepted.
 use Rattle.std.proofs.Common.{◌≡◌, ℕ, suc, ◌+◌, ◌-◌, ◌/◌, ◌%◌, ◌≤◌, true, false, ◌&&◌, ◌==◌, List, [], ◌∷◌, ◌++◌, length, map, flat_map, None, refl, sym, ap, subst, arith}
 use Rattle.spb_types.specs.declared.service.Attachment.{Attachment}
+use Rattle.spb_types.specs.declared.service.Mode.TheVariants.{Both}
 use Rattle.spb_types.specs.declared.service.Vid.{Vid}
 use Rattle.bridge_api.specs.Services.{attachment_of}
 use Rattle.scenario.specs.declared.command.Command.{Command}
@@ -179,7 +180,7 @@ declared_member n c x y z x2 y2 z2 place a w so joined = record { vids = so.vids
 -- one member of service j, at a port of bridge k
 runs_member : (n c m x y z x2 y2 z2 j k port : ℕ) → 1 ≤ j → j ≤ n → 1 ≤ k → k ≤ n → 1 ≤ port → port ≤ 3
     → ((e : ℕ × Attachment) → IsMember n x y z e → ((e.0 == k - 1) && (e.1.port == port)) ≡ false)
-    → ((w : World) (v : Vid) → AreJoined n x y z w.attached → AreJoined n x2 y2 z2 (with_one_at (k - 1) (attachment_of port (record { value = isid_of j }) v) w.attached))
+    → ((w : World) (v : Vid) → AreJoined n x y z w.attached → AreJoined n x2 y2 z2 (with_one_at (k - 1) (attachment_of port (record { value = isid_of j }) v Both) w.attached))
     → Runs (Stays m 0 0 (IsDeclared n (n + 1) (n + 1) c (n + 1) x y z)) (attach k port j ∷ []) (Stays m 0 0 (IsDeclared n (n + 1) (n + 1) c (n + 1) x2 y2 z2))
 runs_member n c m x y z x2 y2 z2 j k port some high k1 kn p1 p3 free more = runs_one (Stays m 0 0 (IsDeclared n (n + 1) (n + 1) c (n + 1) x y z)) (Stays m 0 0 (IsDeclared n (n + 1) (n + 1) c (n + 1) x2 y2 z2)) (attach k port j) step
   where
@@ -188,14 +189,14 @@ runs_member n c m x y z x2 y2 z2 j k port some high k1 kn p1 p3 free more = runs
         let so = here.1 in
         let found = so.services.found j some (omega arith) in
         let apart = here.0.sound.world.attached_apart in
-        let goes = attach_goes s (bridge_name k) port (isid_of j) (k - 1) found.0 m 0 0 here.0
+        let goes = attach_goes s (bridge_name k) port (isid_of j) Both (k - 1) found.0 m 0 0 here.0
         (bridge_place s.world.bridges (n + 1) k so.bridges k1 (omega arith) (k - 1) (omega arith)) found.1
         (new_member s.world n x y z (k - 1) port (isid_of j) found.0 apart so.attached.all found.1 p1 p3 free) in (
           goes.0,
           (
             goes.1,
             subst (IsDeclared n (n + 1) (n + 1) c (n + 1) x2 y2 z2) (sym goes.2)
-                (declared_member n c x y z x2 y2 z2 (k - 1) (attachment_of port (record { value = isid_of j }) found.0) s.world so (more s.world found.0 so.attached)),
+                (declared_member n c x y z x2 y2 z2 (k - 1) (attachment_of port (record { value = isid_of j }) found.0 Both) s.world so (more s.world found.0 so.attached)),
           ),
         )
 

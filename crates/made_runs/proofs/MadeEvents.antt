@@ -6,7 +6,7 @@ use Rattle.scenario_maker.specs.Made.{bridge_name, ring_name, chord_count, frame
 use Rattle.spb_world.specs.declared.reason.Reason.{Reason}
 use Rattle.spb_world.specs.World.{World, place_of}
 use Rattle.spb_world.specs.Declaring.{with_live}
-use Rattle.spb_world.specs.Attaching.{is_attached}
+use Rattle.spb_world.specs.Attaching.{is_sending}
 use Rattle.network_model.specs.State.{State}
 use Rattle.network_model.specs.Play.{next_state}
 use Rattle.network_model.specs.Sound.{opening}
@@ -24,7 +24,7 @@ use Rattle.made_runs.proofs.MadeDeclared.{Stays, IsWhole, IsNothing, runs_step, 
 -- what the events need of what is declared: the bridges, and their own member
 pub record IsReady (n : ℕ) (w : World) : Type 0 where
   pub bridges : AreBridged (n + 1) w.bridges
-  pub own : (p : ℕ) → p + 1 < n + 1 → is_attached w.attached p 1 ≡ true
+  pub own : (p : ℕ) → p + 1 < n + 1 → is_sending w.attached p 1 ≡ true
 
 ready : (n : ℕ) (w : World) → IsWhole n w → IsReady n w
 ready n w so = record { bridges = so.bridges; own = so.attached.own }

@@ -5,18 +5,20 @@ use Rattle.std.proofs.lemmas.Bool.{ne_eqb, eq-eqb, eqb-true}
 use Rattle.std.specs.List.{AllByRecursion, list_any, filter_map, cons_option}
 use Rattle.spb_types.specs.declared.limits.TheConstants.{MOST_CUSTOMER_PORTS, MOST_ISIDS}
 use Rattle.spb_types.specs.declared.service.Attachment.{Attachment}
+use Rattle.spb_types.specs.Service.{sends}
 use Rattle.spb_types.specs.declared.service.Isid.{Isid}
+use Rattle.spb_types.specs.declared.service.Mode.TheVariants.{Both}
 use Rattle.spb_types.specs.declared.service.Vid.{Vid}
 use Rattle.spb_types.specs.declared.service.VidPlan.{VidPlan}
 use Rattle.bridge_api.specs.Config.{ArePairwise, different}
 use Rattle.bridge_api.specs.Services.{attachment_of}
 use Rattle.scenario_maker.specs.Made.{next_of, across, vid_of, isid_of, frame_bytes}
 use Rattle.scenario_maker.proofs.Places.{members_are_apart, places_are_taken_once}
-use Rattle.spb_world.specs.declared.reason.Reason.TheVariants.{NoSuchName, NameTaken, Range, TooMany, Attached, NotAttached}
+use Rattle.spb_world.specs.declared.reason.Reason.TheVariants.{NoSuchName, NameTaken, Range, TooMany, Attached, NotAttached, ReceiveOnly}
 use Rattle.spb_world.specs.World.{World, Services, Attachments, vid_of_isid, attachment_at, attached_at, AreAtTwoPorts}
 use Rattle.spb_world.specs.Declaring.{has_vid, plan_of}
 use Rattle.spb_world.specs.Services.{is_isid_range, isid_refusal, service_of}
-use Rattle.spb_world.specs.Attaching.{is_customer_port, is_customer_frame, is_attached, isids_of, isids_with, has_isid_room, attach_refusal, entry_refusal, with_one_at}
+use Rattle.spb_world.specs.Attaching.{is_customer_port, is_customer_frame, is_attached, is_sending, isids_of, isids_with, has_isid_room, attach_refusal, entry_refusal, with_one_at}
 use Rattle.spb_world.proofs.ListLemmas.{All-map, All-push, length-push}
 use Rattle.spb_world.proofs.ServiceLemmas.{found-push}
 use Rattle.spb_world.proofs.AttachedLemmas.{any_at, pushed_here, pushed_away, all_with_one}
@@ -94,7 +96,7 @@ pub data IsMember (n a b c : ℕ) (x : ℕ × Attachment) : Type 0 where
 
 pub record AreJoined (n a b c : ℕ) (xs : Attachments) : Type 0 where
   pub all : AllByRecursion (IsMember n a b c) xs
-  pub own : (p : ℕ) → p + 1 < a → is_attached xs p 1 ≡ true
+  pub own : (p : ℕ) → p + 1 < a → is_sending xs p 1 ≡ true
 
 -- ---- at most three at each bridge
 
@@ -229,12 +231,12 @@ any_new p (x ∷ xs) y h = by (p x) (any_new p xs y h)
     by true rest = refl
     by false rest = rest
 
--- whether port 1 of a bridge is attached
+-- whether port 1 of a bridge is attached, and sends
 abbrev is_first : Attachment → Bool
-is_first a = a.port == 1
+is_first a = (a.port == 1) && sends a.mode
 
--- a bridge whose port 1 is attached, when one more is
-own_kept : (i p : ℕ) (a : Attachment) (xs : Attachments) → is_attached xs p 1 ≡ true → is_attached (with_one_at i a xs) p 1 ≡ true
+-- a bridge whose port 1 sends, when one more is attached
+own_kept : (i p : ℕ) (a : Attachment) (xs : Attachments) → is_sending xs p 1 ≡ true → is_sending (with_one_at i a xs) p 1 ≡ true
 own_kept i p a xs there = any_at is_first p (with_one_at i a xs) ∙ by (p == i) refl (sym (any_at is_first p xs) ∙ there)
   where
     by : (b : Bool) → (p == i) ≡ b → list_any is_first (filter_map (attachment_at p) xs) ≡ true → list_any is_first (filter_map (attachment_at p) (with_one_at i a xs)) ≡ true
@@ -244,7 +246,7 @@ own_kept i p a xs there = any_at is_first p (with_one_at i a xs) ∙ by (p == i)
     by false other h = ap (list_any is_first) (pushed_away i p xs a (λ e. true≢false (sym (eq-eqb p i e) ∙ other))) ∙ h
 
 -- and one where this is the one more
-own_new : (i : ℕ) (a : Attachment) (xs : Attachments) → is_first a ≡ true → is_attached (with_one_at i a xs) i 1 ≡ true
+own_new : (i : ℕ) (a : Attachment) (xs : Attachments) → is_first a ≡ true → is_sending (with_one_at i a xs) i 1 ≡ true
 own_new i a xs is = any_at is_first i (with_one_at i a xs) ∙ (ap (list_any is_first) (pushed_here i xs a) ∙ any_new is_first (filter_map (attachment_at i) xs) a is)
 
 wider : (n a b c a2 b2 c2 : ℕ) (x : ℕ × Attachment) → a ≤ a2 → b ≤ b2 → c ≤ c2 → IsMember n a b c x → IsMember n a2 b2 c2 x
@@ -252,32 +254,44 @@ wider n a b c a2 b2 c2 x h k l (own i low high at port) = own i low (omega (arit
 wider n a b c a2 b2 c2 x h k l (behind i low high at port) = behind i low (omega (arith, high, k)) at port
 wider n a b c a2 b2 c2 x h k l (opposite i low high at port) = opposite i low (omega (arith, high, l)) at port
 
-pub own_more : (xs : Attachments) (n j place : ℕ) (isid : Isid) (v : Vid) → 1 ≤ j → place + 1 ≡ j → AreJoined n j j j xs → AreJoined n (j + 1) j j (with_one_at place (attachment_of 1 isid v) xs)
+pub own_more : (xs : Attachments) (n j place : ℕ) (isid : Isid) (v : Vid) → 1 ≤ j → place + 1 ≡ j → AreJoined n j j j xs → AreJoined n (j + 1) j j (with_one_at place (attachment_of 1 isid v Both) xs)
 own_more xs n j place isid v some at so = record {
-  all = all_with_one (IsMember n (j + 1) j j) place (attachment_of 1 isid v) xs (All-map (IsMember n j j j) (IsMember n (j + 1) j j) xs (λ x is. wider n j j j (j + 1) j j x (omega arith) (omega arith) (omega arith) is) so.all) (own j some (omega arith) at refl);
+  all = all_with_one (IsMember n (j + 1) j j) place (attachment_of 1 isid v Both) xs (All-map (IsMember n j j j) (IsMember n (j + 1) j j) xs (λ x is. wider n j j j (j + 1) j j x (omega arith) (omega arith) (omega arith) is) so.all) (own j some (omega arith) at refl);
   own = λ p h. by p (below_or_last (p + 1) j h);
 }
   where
-    by : (p : ℕ) → (p + 1 < j) ⊎ (p + 1 ≡ j) → is_attached (with_one_at place (attachment_of 1 isid v) xs) p 1 ≡ true
-    by p (inl below) = own_kept place p (attachment_of 1 isid v) xs (so.own p below)
+    by : (p : ℕ) → (p + 1 < j) ⊎ (p + 1 ≡ j) → is_sending (with_one_at place (attachment_of 1 isid v Both) xs) p 1 ≡ true
+    by p (inl below) = own_kept place p (attachment_of 1 isid v Both) xs (so.own p below)
     by p (inr same) =
         let here : place ≡ p = omega arith in
-        subst (λ q. is_attached (with_one_at place (attachment_of 1 isid v) xs) q 1 ≡ true) here (own_new place (attachment_of 1 isid v) xs refl)
+        subst (λ q. is_sending (with_one_at place (attachment_of 1 isid v Both) xs) q 1 ≡ true) here (own_new place (attachment_of 1 isid v Both) xs refl)
 
-pub behind_more : (xs : Attachments) (n j place : ℕ) (isid : Isid) (v : Vid) → 1 ≤ j → place + 1 ≡ next_of n j → AreJoined n (j + 1) j j xs → AreJoined n (j + 1) (j + 1) j (with_one_at place (attachment_of 2 isid v) xs)
+pub behind_more : (xs : Attachments) (n j place : ℕ) (isid : Isid) (v : Vid) → 1 ≤ j → place + 1 ≡ next_of n j → AreJoined n (j + 1) j j xs → AreJoined n (j + 1) (j + 1) j (with_one_at place (attachment_of 2 isid v Both) xs)
 behind_more xs n j place isid v some at so = record {
-  all = all_with_one (IsMember n (j + 1) (j + 1) j) place (attachment_of 2 isid v) xs (All-map (IsMember n (j + 1) j j) (IsMember n (j + 1) (j + 1) j) xs (λ x is. wider n (j + 1) j j (j + 1) (j + 1) j x (omega arith) (omega arith) (omega arith) is) so.all) (behind j some (omega arith) at refl);
-  own = λ p h. own_kept place p (attachment_of 2 isid v) xs (so.own p h);
+  all = all_with_one (IsMember n (j + 1) (j + 1) j) place (attachment_of 2 isid v Both) xs (All-map (IsMember n (j + 1) j j) (IsMember n (j + 1) (j + 1) j) xs (λ x is. wider n (j + 1) j j (j + 1) (j + 1) j x (omega arith) (omega arith) (omega arith) is) so.all) (behind j some (omega arith) at refl);
+  own = λ p h. own_kept place p (attachment_of 2 isid v Both) xs (so.own p h);
 }
 
-pub opposite_more : (xs : Attachments) (n j place : ℕ) (isid : Isid) (v : Vid) → 1 ≤ j → place + 1 ≡ across n j → AreJoined n (j + 1) (j + 1) j xs → AreJoined n (j + 1) (j + 1) (j + 1) (with_one_at place (attachment_of 3 isid v) xs)
+pub opposite_more : (xs : Attachments) (n j place : ℕ) (isid : Isid) (v : Vid) → 1 ≤ j → place + 1 ≡ across n j → AreJoined n (j + 1) (j + 1) j xs → AreJoined n (j + 1) (j + 1) (j + 1) (with_one_at place (attachment_of 3 isid v Both) xs)
 opposite_more xs n j place isid v some at so = record {
-  all = all_with_one (IsMember n (j + 1) (j + 1) (j + 1)) place (attachment_of 3 isid v) xs (All-map (IsMember n (j + 1) (j + 1) j) (IsMember n (j + 1) (j + 1) (j + 1)) xs (λ x is. wider n (j + 1) (j + 1) j (j + 1) (j + 1) (j + 1) x (omega arith) (omega arith) (omega arith) is) so.all) (opposite j some (omega arith) at refl);
-  own = λ p h. own_kept place p (attachment_of 3 isid v) xs (so.own p h);
+  all = all_with_one (IsMember n (j + 1) (j + 1) (j + 1)) place (attachment_of 3 isid v Both) xs (All-map (IsMember n (j + 1) (j + 1) j) (IsMember n (j + 1) (j + 1) (j + 1)) xs (λ x is. wider n (j + 1) (j + 1) j (j + 1) (j + 1) (j + 1) x (omega arith) (omega arith) (omega arith) is) so.all) (opposite j some (omega arith) at refl);
+  own = λ p h. own_kept place p (attachment_of 3 isid v Both) xs (so.own p h);
 }
 
 -- ---- a customer's frame
 
-pub new_frame : (w : World) (place k : ℕ) → is_attached w.attached place 1 ≡ true → entry_refusal w place 1 (frame_bytes k) ≡ None
+-- what sends is attached
+sending_attached : (xs : Attachments) (i p : ℕ) → is_sending xs i p ≡ true → is_attached xs i p ≡ true
+sending_attached [] i p h = h
+sending_attached (x ∷ xs) i p h = by (x.0 == i) (x.1.port == p) (sends x.1.mode) h (sending_attached xs i p)
+  where
+    by : (b c d : Bool) → ((b && (c && d)) || is_sending xs i p) ≡ true → (is_sending xs i p ≡ true → is_attached xs i p ≡ true) → ((b && c) || is_attached xs i p) ≡ true
+    by true true d h rest = refl
+    by true false d h rest = rest h
+    by false c d h rest = rest h
+
+pub new_frame : (w : World) (place k : ℕ) → is_sending w.attached place 1 ≡ true → entry_refusal w place 1 (frame_bytes k) ≡ None
 unfolding entry_refusal is_customer_port is_customer_frame
-new_frame w place k there = or_none _ _ (reason_none _ Range refl) (reason_none _ NotAttached there)
+new_frame w place k there =
+    or_none _ _ (or_none _ _ (reason_none _ Range refl) (reason_none _ NotAttached (sending_attached w.attached place 1 there)))
+    (reason_none _ ReceiveOnly there)

@@ -6,6 +6,7 @@ use Rattle.std.proofs.lemmas.Bool.Decides.{nat_tests}
 use Rattle.std.proofs.lemmas.List.Sums.{sum_by-cons}
 use Rattle.spb_types.specs.declared.address.Mac.{Mac}
 use Rattle.spb_types.specs.declared.service.SourceId.{SourceId}
+use Rattle.spb_types.specs.declared.service.Mode.{Mode}
 use Rattle.spb_types.specs.declared.service.Vid.{Vid}
 use Rattle.spb_types.specs.declared.limits.TheConstants.{MOST_ROUNDS, MOST_DELIVERIES, MOST_DELIVERIES_TOGETHER}
 use Rattle.scenario.specs.declared.command.Command.{Command}
@@ -163,16 +164,16 @@ link_goes s name a port_a b port_b cost i j m r d stands at to none =
     ∙ ap (λ k. record (bare s) { world = with_live true (with_link s.world name l) k }) same)
     stands.boxes stands.rounds stands.drained
 
-pub attach_goes : (s : State) (name : List ℕ) (port isid i : ℕ) (vid : Vid) (m r d : ℕ) → Stands m r d s
+pub attach_goes : (s : State) (name : List ℕ) (port isid : ℕ) (mode : Mode) (i : ℕ) (vid : Vid) (m r d : ℕ) → Stands m r d s
     → place_of name s.world.bridges ≡ Some i → vid_of_isid s.world.services isid ≡ Some vid → attach_refusal s.world i port isid ≡ None
-    → Goes m r d s (command.Attach name port isid) (with_attachment_at s.world i (attachment_of port (record { value = isid }) vid))
+    → Goes m r d s (command.Attach name port isid mode) (with_attachment_at s.world i (attachment_of port (record { value = isid }) vid mode))
 unfolding next_state named_attach_refusal at_bridge port_attached
-attach_goes s name port isid i vid m r d stands at within none =
-    arrives s (command.Attach name port isid) (record (bare s) { world = with_attachment_at s.world i (attachment_of port (record { value = isid }) vid) }) m r d stands.sound
+attach_goes s name port isid mode i vid m r d stands at within none =
+    arrives s (command.Attach name port isid mode) (record (bare s) { world = with_attachment_at s.world i (attachment_of port (record { value = isid }) vid mode) }) m r d stands.sound
     (ap (refusal_at_found (λ i. attach_refusal s.world i port isid)) at ∙ none)
-    (ap (λ o. bare (accepted_once (at_place (λ t i. port_attached t i port isid) s o))) at
-    ∙ ap (λ o. bare (attached_in_found s i port isid o)) within
-    ∙ bare-stepped (comes.attach (attachment_of port (record { value = isid }) vid)) (record s { world = with_attachment_at s.world i (attachment_of port (record { value = isid }) vid) }) i)
+    (ap (λ o. bare (accepted_once (at_place (λ t i. port_attached t i port isid mode) s o))) at
+    ∙ ap (λ o. bare (attached_in_found s i port isid mode o)) within
+    ∙ bare-stepped (comes.attach (attachment_of port (record { value = isid }) vid mode)) (record s { world = with_attachment_at s.world i (attachment_of port (record { value = isid }) vid mode) }) i)
     stands.boxes stands.rounds stands.drained
 
 -- ---- events

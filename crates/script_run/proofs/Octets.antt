@@ -9,7 +9,7 @@ use Rattle.scenario.specs.declared.command.Command.{Command}
 use Rattle.scenario.specs.declared.command.Command.TheVariants as command
 use Rattle.scenario.specs.declared.keyword.Keyword.{Keyword}
 use Rattle.scenario.specs.declared.keyword.Keyword.TheVariants as keyword
-use Rattle.scenario.specs.Grammar.{a_frame, Value, Form, gives, takes, form_of, line_of}
+use Rattle.scenario.specs.Grammar.{a_frame, Value, Form, gives, takes, may_take, form_of, line_of}
 use Rattle.scenario.specs.WordForms.{bytes_in}
 use Rattle.scenario.specs.Spelling.{SpellsValue, SpellsForm, Spells}
 use Rattle.scenario.proofs.LineLaws.{Spells-line_of}
@@ -31,15 +31,19 @@ octets_of word bytes spelled =
     all_octets bytes (subst (λ (b : List ℕ). IsBytes b) same ok.3)
 
 -- whatever words are read by the form, the command that it gives is so
-abbrev GivesOctets : Form → Type 0
+abbrev GivesOctets : Form Command → Type 0
 GivesOctets (gives given) = HasOctets given
 GivesOctets (takes kind more) = (value : Value kind) (word : List ℕ) → SpellsValue kind value word → GivesOctets (more value)
+GivesOctets (may_take given kind more) =
+    HasOctets given × ((value : Value kind) (word : List ℕ) → SpellsValue kind value word → GivesOctets (more value))
 
-spelled_octets : (f : Form) (c : Command) (words : List (List ℕ)) → GivesOctets f → SpellsForm f c words → HasOctets c
+spelled_octets : (f : Form Command) (c : Command) (words : List (List ℕ)) → GivesOctets f → SpellsForm f c words → HasOctets c
 spelled_octets (gives given) c [] each form = subst HasOctets form each
 spelled_octets (gives given) c (word ∷ words) each form = absurd form
 spelled_octets (takes kind more) c [] each form = absurd form
 spelled_octets (takes kind more) c (word ∷ words) each form = spelled_octets (more form.0) c words (each form.0 word form.1) form.2
+spelled_octets (may_take given kind more) c [] each form = subst HasOctets form each.0
+spelled_octets (may_take given kind more) c (word ∷ words) each form = spelled_octets (more form.0) c words (each.1 form.0 word form.1) form.2
 
 forms_octets : (k : Keyword) → GivesOctets (form_of k)
 unfolding form_of
@@ -47,7 +51,7 @@ forms_octets keyword.Vid = λ a p x b q y. tt
 forms_octets keyword.Bridge = λ a p x b q y c r z d s u e t v. tt
 forms_octets keyword.Link = λ a p x b q y c r z d s u e t v f g w. tt
 forms_octets keyword.Isid = λ a p x b q y. tt
-forms_octets keyword.Attach = λ a p x b q y c r z. tt
+forms_octets keyword.Attach = λ a p x b q y c r z. (tt, λ d s u. tt)
 forms_octets keyword.Detach = λ a p x b q y. tt
 forms_octets keyword.Metric = λ a p x b q y c r z. tt
 forms_octets keyword.Down = λ a p x. tt
