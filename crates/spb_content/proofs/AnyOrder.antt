@@ -1,5 +1,5 @@
 -- What is said doesn't depend on the order of VIDs and attached ports.
-use Rattle.std.proofs.Common.{◌≡◌, List, [], ◌∷◌, ◌++◌, map, flat_map, Some, refl, sym, ap, ◌∙◌, subst}
+use Rattle.std.proofs.Common.{◌≡◌, Bool, true, List, [], ◌∷◌, ◌++◌, map, flat_map, Some, refl, sym, ap, ◌∙◌, subst}
 use Rattle.std.specs.Prelude.{◌==◌, Contains}
 use Rattle.spb_types.specs.Ascending.{ascending}
 use Rattle.spb_types.specs.Service.{AreVidsApart}
@@ -9,17 +9,17 @@ use Rattle.spb_types.specs.declared.service.Isid.{Isid}
 use Rattle.spb_types.specs.declared.service.Vid.{Vid}
 use Rattle.spb_types.specs.declared.service.VidPlan.{VidPlan}
 use Rattle.spb_tlvs.specs.declared.capability.Service.{Service}
-use Rattle.spb_content.specs.Local.{own_mac, trees_of, vids_in, isids_in, in_vid, services_in, service_with, plan_number, vid_number, isid_number, said_by}
+use Rattle.spb_tlvs.specs.declared.capability.Capability.TheVariants.{Services}
+use Rattle.spb_content.specs.declared.local.Local.{Local}
+use Rattle.spb_content.specs.Local.{own_mac, trees_of, vids_in, isids_in, in_vid, service_tlvs, capability_tlv, services_in, service_among, is_of_isid, plan_number, vid_number, isid_number, said_by}
 use Rattle.spb_content.specs.Members.{pair_of}
 use Rattle.spb_content.specs.Laws.{OrderSaysNothingOfContent}
 use Rattle.spb_content.proofs.Members.{Has, has_map, has_filter, filter_has, has_from_contains, contains_from_has}
 use Rattle.spb_content.proofs.Ascended.{ascending_ascends, has_ascending, numbered_ascending, ascends_once}
 use Rattle.spb_content.proofs.Sorted.{one_plan}
+use Rattle.spb_content.proofs.Covered.{ArePaired, IsDone, AreCovered, Within, sends, takes, covered_paired, within_covered, do_the_same}
+use Rattle.spb_content.proofs.Merged.{map_same}
 use Rattle.spb_content.proofs.Written.{attached_in, isid_attached, attached_isid}
-
--- the members of one list are members of the other
-abbrev Within : {A : Type 0} → List A → List A → Type 0
-Within {A} xs ys = (x : A) → Has x xs → Has x ys
 
 within : {A : Type 0} (xs ys : List A) → ((x : A) → Contains xs x → Contains ys x) → Within xs ys
 within xs ys f x h = has_from_contains x ys (f x (contains_from_has x xs h))
@@ -29,18 +29,6 @@ trees_within ps qs apart f p h =
     let i = f p (has_ascending plan_number p ps h) in
     let n = numbered_ascending plan_number p.vid.value qs (record { item = p; has = i; is = refl }) in
     subst (λ q. Has q (ascending plan_number qs)) (one_plan n.item p qs apart (has_ascending plan_number n.item qs n.has) i n.is) n.has
-
--- for each member of one list there is one in the other with its base VID and I-SID
-pub record IsPaired (m : Member) (ns : List Member) : Type 0 where
-  pub item : Member
-  pub has : Has item ns
-  pub is : pair_of m ≡ pair_of item
-
-abbrev pub ArePaired : List Member → List Member → Type 0
-ArePaired ms ns = (m : Member) → Has m ms → IsPaired m ns
-
-paired_within : (ms ns : List Member) → Within ms ns → ArePaired ms ns
-paired_within ms ns f m h = record { item = m; has = f m h; is = refl }
 
 vids_within : (ms ns : List Member) → ArePaired ms ns → Within (vids_in ms) (vids_in ns)
 vids_within ms ns f v h =
@@ -58,27 +46,44 @@ isids_within ms ns f i h =
     let same : n.item ≡ i = ap (λ k. record { value = k }) (n.is ∙ sym (ap (λ (p : Vid × Isid). p.1.value) b.is) ∙ ap isid_number (sym a.2)) in
     subst (λ j. Has j (isids_in ns)) same n.has
 
-in_vid_within : (v : Vid) (ms ns : List Member) → ArePaired ms ns → ArePaired (in_vid v ms) (in_vid v ns)
-in_vid_within v ms ns f m h =
+kept_here : (v : Vid) (m n : Member) → pair_of m ≡ pair_of n → (m.vid.value == v.value) ≡ true → (n.vid.value == v.value) ≡ true
+kept_here v m n is e = sym (ap (λ (p : Vid × Isid). p.0.value == v.value) is) ∙ e
+
+done_here : (does : Member → Bool) (v : Vid) (m : Member) (ns : List Member) → (m.vid.value == v.value) ≡ true → IsDone does m ns → IsDone does m (in_vid v ns)
+done_here does v m ns here d =
+    record { item = d.item; has = has_filter (λ n. n.vid.value == v.value) d.item ns d.has (kept_here v m d.item d.is here); is = d.is; done = d.done }
+
+in_vid_covered : (v : Vid) (ms ns : List Member) → AreCovered ms ns → AreCovered (in_vid v ms) (in_vid v ns)
+in_vid_covered v ms ns f m h =
     let k = filter_has (λ n. n.vid.value == v.value) m ms h in
-    let b = f m k.0 in
+    let c = f m k.0 in
     record {
-      item = b.item;
-      has = has_filter (λ n. n.vid.value == v.value) b.item ns b.has (sym (ap (λ (p : Vid × Isid). p.0.value == v.value) b.is) ∙ k.1);
-      is = b.is;
+      paired = record { item = c.paired.item; has = has_filter (λ n. n.vid.value == v.value) c.paired.item ns c.paired.has (kept_here v m c.paired.item c.paired.is k.1); is = c.paired.is };
+      sends = λ e. done_here sends v m ns k.1 (c.sends e);
+      takes = λ e. done_here takes v m ns k.1 (c.takes e);
     }
 
-services_same : (v : Vid) (ms ns : List Member) → ArePaired ms ns → ArePaired ns ms → services_in v ms ≡ services_in v ns
+pub isids_same : (ms ns : List Member) → ArePaired ms ns → ArePaired ns ms → isids_in ms ≡ isids_in ns
+isids_same ms ns f g =
+    ascends_once isid_number (isids_in ms) (isids_in ns) (ascending_ascends isid_number (map (λ m. m.isid) ms)) (ascending_ascends isid_number (map (λ m. m.isid) ns)) (isids_within ms ns f) (isids_within ns ms g)
+
+service_same : (ms ns : List Member) (isid : Isid) → AreCovered ms ns → AreCovered ns ms → service_among ms isid ≡ service_among ns isid
+service_same ms ns isid f g =
+    let same = do_the_same (is_of_isid isid) ms ns (λ m n is e. sym (ap (λ (p : Vid × Isid). p.1.value == isid.value) is) ∙ e) f g in
+    λ i. record { isid = isid; transmit = same.sends i; receive = same.takes i }
+
+services_same : (v : Vid) (ms ns : List Member) → AreCovered ms ns → AreCovered ns ms → services_in v ms ≡ services_in v ns
 services_same v ms ns f g =
-    ap (λ is. map service_with is) (ascends_once isid_number (isids_in (in_vid v ms)) (isids_in (in_vid v ns))
-    (ascending_ascends isid_number (map (λ m. m.isid) (in_vid v ms))) (ascending_ascends isid_number (map (λ m. m.isid) (in_vid v ns)))
-    (isids_within (in_vid v ms) (in_vid v ns) (in_vid_within v ms ns f)) (isids_within (in_vid v ns) (in_vid v ms) (in_vid_within v ns ms g)))
+    let to = in_vid_covered v ms ns f in
+    let back = in_vid_covered v ns ms g in
+    ap (map (service_among (in_vid v ms))) (isids_same (in_vid v ms) (in_vid v ns) (covered_paired (in_vid v ms) (in_vid v ns) to) (covered_paired (in_vid v ns) (in_vid v ms) back))
+    ∙ map_same (service_among (in_vid v ms)) (service_among (in_vid v ns)) (isids_in (in_vid v ns)) (λ isid h. service_same (in_vid v ms) (in_vid v ns) isid to back)
 
 vids_same : (ms ns : List Member) → ArePaired ms ns → ArePaired ns ms → vids_in ms ≡ vids_in ns
 vids_same ms ns f g =
     ascends_once vid_number (vids_in ms) (vids_in ns) (ascending_ascends vid_number (map (λ m. m.vid) ms)) (ascending_ascends vid_number (map (λ m. m.vid) ns)) (vids_within ms ns f) (vids_within ns ms g)
 
-flat_map_agree : {X Y : Type 0} (f g : X → List Y) (xs : List X) → ((x : X) → f x ≡ g x) → flat_map f xs ≡ flat_map g xs
+pub flat_map_agree : {X Y : Type 0} (f g : X → List Y) (xs : List X) → ((x : X) → f x ≡ g x) → flat_map f xs ≡ flat_map g xs
 flat_map_agree f g [] e = refl
 flat_map_agree f g (x ∷ xs) e = ap (λ ys. ys ++ flat_map f xs) (e x) ∙ ap (λ ys. g x ++ ys) (flat_map_agree f g xs e)
 
@@ -91,10 +96,17 @@ abbrev pub listing : Mac → List Member → List (Mac × Vid × Service)
 listing mac ms = flat_map (group mac ms) (vids_in ms)
 
 -- it doesn't depend on their order, nor on how often one stands there
-pub listing_same : (mac : Mac) (ms ns : List Member) → ArePaired ms ns → ArePaired ns ms → listing mac ms ≡ listing mac ns
+pub listing_same : (mac : Mac) (ms ns : List Member) → AreCovered ms ns → AreCovered ns ms → listing mac ms ≡ listing mac ns
 listing_same mac ms ns f g =
     flat_map_agree (group mac ms) (group mac ns) (vids_in ms) (λ v. ap (λ (ss : List Service). map (λ s. (mac, v, s)) ss) (services_same v ms ns f g))
-    ∙ ap (flat_map (group mac ns)) (vids_same ms ns f g)
+    ∙ ap (flat_map (group mac ns)) (vids_same ms ns (covered_paired ms ns f) (covered_paired ns ms g))
+
+-- nor do the TLVs
+pub tlvs_same : (l : Local) (ms ns : List Member) → AreCovered ms ns → AreCovered ns ms → service_tlvs (record l { attached = ms }) ≡ service_tlvs (record l { attached = ns })
+tlvs_same l ms ns f g =
+    flat_map_agree (λ v. capability_tlv (Services (own_mac l) v (services_in v ms))) (λ v. capability_tlv (Services (own_mac l) v (services_in v ns))) (vids_in ms)
+    (λ v. ap (λ (ss : List Service). capability_tlv (Services (own_mac l) v ss)) (services_same v ms ns f g))
+    ∙ ap (flat_map (λ v. capability_tlv (Services (own_mac l) v (services_in v ns)))) (vids_same ms ns (covered_paired ms ns f) (covered_paired ns ms g))
 
 pub order_says_nothing : OrderSaysNothingOfContent
 order_says_nothing l m h k like =
@@ -107,7 +119,7 @@ order_says_nothing l m h k like =
     (trees_within l.config.vids m.config.vids k.vids_apart plans_to) (trees_within m.config.vids l.config.vids h.vids_apart plans_from) in
     let mac : own_mac l ≡ own_mac m = ap (λ i. i.system.mac) like.id in
     let services : (said_by l).services ≡ (said_by m).services =
-    listing_same (own_mac l) l.attached m.attached (paired_within l.attached m.attached to) (paired_within m.attached l.attached from)
+    listing_same (own_mac l) l.attached m.attached (within_covered l.attached m.attached to) (within_covered m.attached l.attached from)
     ∙ ap (λ (c : Mac). listing c m.attached) mac in
     let priority = ap (λ i. i.priority) like.id in
     λ i. record {

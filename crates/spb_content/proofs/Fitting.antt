@@ -12,10 +12,12 @@ use Rattle.spb_content.specs.Local.{service_tlvs, content_bytes, own_mac, trees_
 use Rattle.spb_content.specs.Fragments.{services_by, part_of, unless_none, fragment, fragments_from, bodies_saying, AreToCut}
 use Rattle.spb_content.specs.Laws.{HasFields, AreConfigured, Fits, FragmentsFit, FewAreOne}
 use Rattle.spb_content.proofs.Again.{services_at}
-use Rattle.spb_content.proofs.AnyOrder.{ArePaired, listing, listing_same}
+use Rattle.spb_content.proofs.Covered.{ArePaired}
+use Rattle.spb_content.proofs.Merged.{merged_paired}
+use Rattle.spb_content.proofs.AnyOrder.{listing, listing_same}
 use Rattle.spb_content.proofs.Groups.{same_is_written}
 use Rattle.spb_content.proofs.Lengths.{whole_none, whole_several, content_len, own_fits}
-use Rattle.spb_content.proofs.Pairs.{merged_paired, paired_merged, services_are_few}
+use Rattle.spb_content.proofs.Pairs.{attached_covered, covered_attached, services_are_few}
 use Rattle.spb_content.proofs.Parts.{past, whole, is_part, some_ports, few_are_part, part_fields, part_configured, fragments_are_first}
 use Rattle.spb_content.proofs.Told.{service_fragment}
 
@@ -48,7 +50,7 @@ said_in_one l is few =
     let all : (part_of 0 l).attached ≡ services_by l = whole 60 (services_by l) few in
     let services : listing (own_mac l) (part_of 0 l).attached ≡ listing (own_mac l) l.attached =
     ap (listing (own_mac l)) all
-    ∙ listing_same (own_mac l) (services_by l) l.attached (merged_paired l.config.id.system l.attached) (paired_merged l.config.id.system l.attached is.attached) in
+    ∙ listing_same (own_mac l) (services_by l) l.attached (attached_covered l.config.id.system l.attached is.attached) (covered_attached l.config.id.system l.attached is.attached) in
     same_is_written (part_of 0 l) l (λ i. record {
       inst = Some (record { priority = l.config.id.priority; source = l.config.source; trees = trees_of l });
       neighbours = l.neighbours;

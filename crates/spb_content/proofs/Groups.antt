@@ -12,7 +12,7 @@ use Rattle.spb_tlvs.specs.declared.capability.Service.{Service}
 use Rattle.spb_content.specs.declared.local.Local.{Local}
 use Rattle.spb_content.specs.declared.content.Content.{Content}
 use Rattle.spb_content.specs.declared.content.Inst.{Inst}
-use Rattle.spb_content.specs.Local.{capability_tlv, own_mac, vids_in, services_in, service_with, isids_in, in_vid, vid_number, service_tlvs, neighbour_tlvs, inst_tlv, areas, protocols, content_bytes, said_by}
+use Rattle.spb_content.specs.Local.{capability_tlv, own_mac, vids_in, services_in, service_among, isids_in, in_vid, vid_number, service_tlvs, neighbour_tlvs, inst_tlv, areas, protocols, content_bytes, said_by}
 use Rattle.spb_content.specs.Content.{content_in}
 use Rattle.spb_content.specs.Laws.{SameIsWritten, WrittenIsSame}
 use Rattle.spb_content.proofs.Members.{Has, has_all, has_map, map_has, has_filter}
@@ -172,7 +172,7 @@ some_service l v h e =
     let a = attached_in v l.attached h in
     let here : Has a.0 (in_vid v l.attached) = has_filter (λ m. m.vid.value == v.value) a.0 l.attached a.1 (eq-eqb a.0.vid.value v.value (ap vid_number (sym a.2))) in
     let n = attached_isid a.0 (in_vid v l.attached) here in
-    subst (λ ss. Has (service_with n.item) ss) e (has_map service_with n.item (isids_in (in_vid v l.attached)) n.has)
+    subst (λ ss. Has (service_among (in_vid v l.attached) n.item) ss) e (has_map (service_among (in_vid v l.attached)) n.item (isids_in (in_vid v l.attached)) n.has)
 
 are_groups : (l : Local) → AreGroups (groups_of l)
 unfolding groups_of group_at

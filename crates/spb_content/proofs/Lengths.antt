@@ -20,7 +20,7 @@ use Rattle.spb_tlvs.proofs.Written.{trees_len, services_len}
 use Rattle.isis_pdu.specs.Tlvs.{is_whole, is_whole_after}
 use Rattle.isis_pdu.proofs.FormatLaws.{whole_one, whole_both}
 use Rattle.spb_content.specs.declared.local.Local.{Local}
-use Rattle.spb_content.specs.Local.{areas, protocols, neighbour_tlvs, inst_tlv, service_tlvs, content_bytes, capability_tlv, own_mac, trees_of, vids_in, isids_in, in_vid, services_in, service_with, vid_number, isid_number, plan_number, AreInOneVid}
+use Rattle.spb_content.specs.Local.{areas, protocols, neighbour_tlvs, inst_tlv, service_tlvs, content_bytes, capability_tlv, own_mac, trees_of, vids_in, isids_in, in_vid, services_in, service_among, vid_number, isid_number, plan_number, AreInOneVid}
 use Rattle.spb_content.specs.Laws.{AreConfigured, OwnFits}
 use Rattle.spb_content.proofs.Members.{Has, all_has, has_all, has_parts, has_from_contains, filter_has, flat_map_has}
 use Rattle.spb_content.proofs.Ascended.{ascending_ascends, Numbered}
@@ -77,7 +77,7 @@ services_len_over l (v ∷ vs) h =
       arith,
       length-append (capability_tlv (services_at l v)) (flat_map (λ w. capability_tlv (services_at l w)) vs),
       services_tlv_len (own_mac l) v (services_in v l.attached) h,
-      length-map (isids_in (in_vid v l.attached)) service_with,
+      length-map (isids_in (in_vid v l.attached)) (service_among (in_vid v l.attached)),
       services_len_over l vs h,
       length-append (isids_in (in_vid v l.attached)) (flat_map (λ w. isids_in (in_vid w l.attached)) vs),
     )

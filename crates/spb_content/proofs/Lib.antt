@@ -1,5 +1,7 @@
 pub mod Members
 pub mod Ascended
+pub mod Covered
+pub mod Merged
 pub mod Sorted
 pub mod Tlvs
 pub mod Kept
@@ -15,13 +17,14 @@ pub mod Walked
 pub mod Chosen
 pub mod Made
 pub mod Put
+pub mod Folded
 pub mod Joined
 pub mod Whole
 pub mod Uncut
 pub mod Pairs
-pub mod SortedPairs
 pub mod Listed
 pub mod Parts
 pub mod Told
 pub mod Fitting
 pub mod Octets
+pub mod SaidMembers

@@ -1,8 +1,8 @@
 -- Services in order are said in that order: base VID by base VID, and I-SID by I-SID.
-use Rattle.std.specs.Prelude.{◌≡◌, ◌⊎◌, ℕ, ◌<◌, ◌≤◌, List, [], ◌∷◌, ◌++◌, map, flat_map, ◌==◌}
-use Rattle.std.proofs.Common.{refl, sym, ap, subst, ◌∙◌, inl, inr, arith}
-use Rattle.std.proofs.lemmas.Bool.{eqb-true, eq-eqb}
-use Rattle.std.specs.List.{AllByRecursion}
+use Rattle.std.specs.Prelude.{◌≡◌, ◌⊎◌, ℕ, ◌<◌, ◌≤◌, Bool, true, false, ◌&&◌, ◌||◌, List, [], ◌∷◌, ◌++◌, map, flat_map, ◌==◌}
+use Rattle.std.proofs.Common.{cond, refl, sym, ap, subst, ◌∙◌, inl, inr, arith}
+use Rattle.std.proofs.lemmas.Bool.{eqb-true, eq-eqb, and_parts, and_from}
+use Rattle.std.specs.List.{AllByRecursion, list_any}
 use Rattle.spb_types.specs.Ascending.{Ascends}
 use Rattle.spb_types.specs.declared.address.Mac.{Mac}
 use Rattle.spb_types.specs.declared.graph.Member.{Member}
@@ -10,17 +10,21 @@ use Rattle.spb_types.specs.declared.service.Isid.{Isid}
 use Rattle.spb_types.specs.declared.service.Vid.{Vid}
 use Rattle.spb_types.specs.declared.limits.TheConstants.{GREATEST_ISID}
 use Rattle.spb_tlvs.specs.declared.capability.Service.{Service}
-use Rattle.spb_content.specs.Local.{IsAttached, vid_number, isid_number, vids_in, isids_in, in_vid, services_in, service_with}
+use Rattle.spb_tlvs.specs.declared.capability.Capability.TheVariants.{Services}
+use Rattle.spb_content.specs.declared.local.Local.{Local}
+use Rattle.spb_content.specs.Local.{IsAttached, vid_number, isid_number, vids_in, isids_in, in_vid, services_in, service_among, service_of, is_of_isid, own_mac, capability_tlv, service_tlvs}
 use Rattle.spb_content.specs.Members.{pair_number}
 use Rattle.spb_content.proofs.Members.{Has, all_has, has_all, has_map, map_has, has_filter, filter_has, has_flat_map, flat_map_has, has_parts}
 use Rattle.spb_content.proofs.Ascended.{ascending_ascends, numbered_ascending, ascends_once}
 use Rattle.spb_content.proofs.Written.{isid_attached, attached_isid}
-use Rattle.spb_content.proofs.AnyOrder.{group, listing}
-use Rattle.spb_content.proofs.Pairs.{service_number, ascends_mapped}
+use Rattle.spb_content.proofs.AnyOrder.{group, listing, flat_map_agree}
+use Rattle.spb_content.specs.Folding.{service_number}
+use Rattle.spb_content.proofs.Covered.{has_any, any_same}
+use Rattle.spb_content.proofs.Merged.{ascends_mapped, ascending_again, one_item, map_same, map_map}
 
 -- a member as it is said
 abbrev pub listed : Mac → Member → Mac × Vid × Service
-listed mac m = (mac, m.vid, service_with m.isid)
+listed mac m = (mac, m.vid, service_of m)
 
 -- the number of what is said
 abbrev place : Mac × Vid × Service → ℕ
@@ -42,20 +46,50 @@ record InGroup (mac : Mac) (ms : List Member) (v : Vid) (x : Mac × Vid × Servi
   member : Member
   has : Has member ms
   vid : member.vid.value ≡ v.value
-  is : x ≡ (mac, v, service_with member.isid)
+  is : x ≡ (mac, v, service_among (in_vid v ms) member.isid)
 
 in_group : (mac : Mac) (ms : List Member) (v : Vid) (x : Mac × Vid × Service) → Has x (group mac ms v) → InGroup mac ms v x
 in_group mac ms v x h =
     let s = map_has (λ s. (mac, v, s)) x (services_in v ms) h in
-    let i = map_has service_with s.0 (isids_in (in_vid v ms)) s.1 in
+    let i = map_has (service_among (in_vid v ms)) s.0 (isids_in (in_vid v ms)) s.1 in
     let m = isid_attached i.0 (in_vid v ms) i.1 in
     let f = filter_has (λ (n : Member). n.vid.value == v.value) m.0 ms m.1 in
     record {
       member = m.0;
       has = f.0;
       vid = eqb-true m.0.vid.value v.value f.1;
-      is = s.2 ∙ ap (λ (t : Service). (mac, v, t)) (i.2 ∙ ap service_with m.2);
+      is = s.2 ∙ ap (λ (t : Service). (mac, v, t)) (i.2 ∙ ap (service_among (in_vid v ms)) m.2);
     }
+
+-- in an ascending list each member is its service alone
+one_serves : (does : Member → Bool) (ms : List Member) (v : Vid) (m : Member) → Ascends service_number ms → Has m ms → m.vid.value ≡ v.value → list_any (λ n. is_of_isid m.isid n && does n) (in_vid v ms) ≡ does m
+one_serves does ms v m up h vid =
+    any_same (λ n. is_of_isid m.isid n && does n) does (in_vid v ms) (m ∷ []) to back ∙ only (does m)
+  where
+    only : (b : Bool) → (b || false) ≡ b
+    only true = refl
+    only false = refl
+
+    to : (n : Member) → Has n (in_vid v ms) → (is_of_isid m.isid n && does n) ≡ true → (does m || false) ≡ true
+    to n i e =
+        let parts = and_parts (is_of_isid m.isid n) (does n) e in
+        let f = filter_has (λ (n : Member). n.vid.value == v.value) n ms i in
+        let isids : n.isid.value ≡ m.isid.value = eqb-true n.isid.value m.isid.value parts.0 in
+        let vids : n.vid.value ≡ v.value = eqb-true n.vid.value v.value f.1 in
+        let same : n ≡ m = one_item service_number ms n m up f.0 h (omega (arith, isids, vids, vid)) in
+        only (does m) ∙ (ap does (sym same) ∙ parts.1)
+
+    back : (n : Member) → Has n (m ∷ []) → does n ≡ true → list_any (λ k. is_of_isid m.isid k && does k) (in_vid v ms) ≡ true
+    back n (inl i) e =
+        has_any (λ k. is_of_isid m.isid k && does k) m (in_vid v ms) (has_filter (λ (n : Member). n.vid.value == v.value) m ms h (eq-eqb m.vid.value v.value vid))
+        (and_from (is_of_isid m.isid m) (does m) (eq-eqb m.isid.value m.isid.value refl) (ap does (sym i) ∙ e))
+    back n (inr i) e = absurd i
+
+service_alone : (ms : List Member) (v : Vid) (m : Member) → Ascends service_number ms → Has m ms → m.vid.value ≡ v.value → service_among (in_vid v ms) m.isid ≡ service_of m
+service_alone ms v m up h vid =
+    let t = one_serves (λ n. n.transmit) ms v m up h vid in
+    let r = one_serves (λ n. n.receive) ms v m up h vid in
+    λ i. record { isid = m.isid; transmit = t i; receive = r i }
 
 small : (ms : List Member) (m : Member) → AllByRecursion IsAttached ms → Has m ms → m.isid.value ≤ GREATEST_ISID
 small ms m each h = (all_has IsAttached m ms each h).isid_high
@@ -70,8 +104,8 @@ group_ascends : (mac : Mac) (ms : List Member) (v : Vid) → Ascends place (grou
 group_ascends mac ms v =
     let isids : List Isid = isids_in (in_vid v ms) in
     let up : Ascends isid_number isids = ascending_ascends isid_number (map (λ m. m.isid) (in_vid v ms)) in
-    let services : Ascends (λ (s : Service). s.isid.value) (map service_with isids) = ascends_mapped isid_number (λ (s : Service). s.isid.value) service_with isids (λ x y h i less. less) up in
-    ascends_mapped (λ (s : Service). s.isid.value) place (λ s. (mac, v, s)) (map service_with isids) (λ x y h i less. omega (arith, less)) services
+    let services : Ascends (λ (s : Service). s.isid.value) (services_in v ms) = ascends_mapped isid_number (λ (s : Service). s.isid.value) (service_among (in_vid v ms)) isids (λ x y h i less. less) up in
+    ascends_mapped (λ (s : Service). s.isid.value) place (λ s. (mac, v, s)) (services_in v ms) (λ x y h i less. omega (arith, less)) services
 
 groups_ascend : (mac : Mac) (ms : List Member) (vs : List Vid) → AllByRecursion IsAttached ms → Ascends vid_number vs → Ascends place (flat_map (group mac ms) vs)
 groups_ascend mac ms [] each p = tt
@@ -91,28 +125,64 @@ vid_is x y e = λ i. record { value = e i }
 isid_is : (x y : Isid) → x.value ≡ y.value → x ≡ y
 isid_is x y e = λ i. record { value = e i }
 
-from_listing : (mac : Mac) (ms : List Member) (x : Mac × Vid × Service) → Has x (listing mac ms) → Has x (map (listed mac) ms)
-from_listing mac ms x h =
+from_listing : (mac : Mac) (ms : List Member) (x : Mac × Vid × Service) → Ascends service_number ms → Has x (listing mac ms) → Has x (map (listed mac) ms)
+from_listing mac ms x up h =
     let w = flat_map_has (group mac ms) x (vids_in ms) h in
     let g = in_group mac ms w.0 x w.2 in
-    subst (λ y. Has y (map (listed mac) ms)) (sym (g.is ∙ ap (λ (v : Vid). (mac, v, service_with g.member.isid)) (vid_is w.0 g.member.vid (sym g.vid)))) (has_map (listed mac) g.member ms g.has)
+    let alone : service_among (in_vid w.0 ms) g.member.isid ≡ service_of g.member = service_alone ms w.0 g.member up g.has g.vid in
+    subst (λ y. Has y (map (listed mac) ms))
+    (sym (g.is ∙ (ap (λ (s : Service). (mac, w.0, s)) alone ∙ ap (λ (v : Vid). (mac, v, service_of g.member)) (vid_is w.0 g.member.vid (sym g.vid)))))
+    (has_map (listed mac) g.member ms g.has)
 
-to_listing : (mac : Mac) (ms : List Member) (x : Mac × Vid × Service) → Has x (map (listed mac) ms) → Has x (listing mac ms)
-to_listing mac ms x h =
+to_listing : (mac : Mac) (ms : List Member) (x : Mac × Vid × Service) → Ascends service_number ms → Has x (map (listed mac) ms) → Has x (listing mac ms)
+to_listing mac ms x up h =
     let m = map_has (listed mac) x ms h in
-    let vid = numbered_ascending vid_number m.0.vid.value (map (λ n. n.vid) ms) (record { item = m.0.vid; has = has_map (λ n. n.vid) m.0 ms m.1; is = refl }) in
-    let same : vid.item ≡ m.0.vid = vid_is vid.item m.0.vid vid.is in
-    let among : Has m.0 (in_vid m.0.vid ms) = has_filter (λ (n : Member). n.vid.value == m.0.vid.value) m.0 ms m.1 (eq-eqb m.0.vid.value m.0.vid.value refl) in
-    let isid = attached_isid m.0 (in_vid m.0.vid ms) among in
-    let service : Has (service_with isid.item) (services_in m.0.vid ms) = has_map service_with isid.item (isids_in (in_vid m.0.vid ms)) isid.has in
-    let in_it : Has (mac, m.0.vid, service_with isid.item) (group mac ms m.0.vid) = has_map (λ s. (mac, m.0.vid, s)) (service_with isid.item) (services_in m.0.vid ms) service in
-    let there : Has m.0.vid (vids_in ms) = subst (λ v. Has v (vids_in ms)) same vid.has in
-    subst (λ y. Has y (listing mac ms)) (ap (λ (i : Isid). (mac, m.0.vid, service_with i)) (isid_is isid.item m.0.isid isid.is) ∙ sym m.2)
-    (has_flat_map (group mac ms) m.0.vid (mac, m.0.vid, service_with isid.item) (vids_in ms) there in_it)
+    let v : Vid = m.0.vid in
+    let vid = numbered_ascending vid_number v.value (map (λ n. n.vid) ms) (record { item = v; has = has_map (λ n. n.vid) m.0 ms m.1; is = refl }) in
+    let there : Has v (vids_in ms) = subst (λ w. Has w (vids_in ms)) (vid_is vid.item v vid.is) vid.has in
+    let among : Has m.0 (in_vid v ms) = has_filter (λ (n : Member). n.vid.value == v.value) m.0 ms m.1 (eq-eqb v.value v.value refl) in
+    let isid = attached_isid m.0 (in_vid v ms) among in
+    let here : Has m.0.isid (isids_in (in_vid v ms)) = subst (λ i. Has i (isids_in (in_vid v ms))) (isid_is isid.item m.0.isid isid.is) isid.has in
+    let service : Has (service_of m.0) (services_in v ms) =
+    subst (λ s. Has s (services_in v ms)) (service_alone ms v m.0 up m.1 refl) (has_map (service_among (in_vid v ms)) m.0.isid (isids_in (in_vid v ms)) here) in
+    let in_it : Has (listed mac m.0) (group mac ms v) = has_map (λ s. (mac, v, s)) (service_of m.0) (services_in v ms) service in
+    subst (λ y. Has y (listing mac ms)) (sym m.2) (has_flat_map (group mac ms) v (listed mac m.0) (vids_in ms) there in_it)
 
 pub listed_again : (mac : Mac) (ms : List Member) → Ascends service_number ms → AllByRecursion IsAttached ms → listing mac ms ≡ map (listed mac) ms
 listed_again mac ms up each =
     ascends_once place (listing mac ms) (map (listed mac) ms)
     (groups_ascend mac ms (vids_in ms) each (ascending_ascends vid_number (map (λ m. m.vid) ms)))
     (ascends_mapped service_number place (listed mac) ms (λ x y h i less. less) up)
-    (from_listing mac ms) (to_listing mac ms)
+    (λ x h. from_listing mac ms x up h) (λ x h. to_listing mac ms x up h)
+
+-- ---- the services of ascending members in one base VID
+
+in_vid_ascends : (v : Vid) (ms : List Member) → Ascends service_number ms → Ascends service_number (in_vid v ms)
+in_vid_ascends v [] up = tt
+in_vid_ascends v (m ∷ ms) up = at (m.vid.value == v.value) (in_vid_ascends v ms up.1)
+  where
+    at : (b : Bool) → Ascends service_number (in_vid v ms) → Ascends service_number (cond b (m ∷ in_vid v ms) (in_vid v ms))
+    at true h = (has_all (λ n. service_number m < service_number n) (in_vid v ms) (λ n i. all_has (λ k. service_number m < service_number k) n ms up.0 (filter_has (λ (k : Member). k.vid.value == v.value) n ms i).0), h)
+    at false h = h
+
+isids_ascend : (v : Vid) (ms : List Member) → Ascends service_number ms → Ascends isid_number (map (λ m. m.isid) (in_vid v ms))
+isids_ascend v ms up = ascends_mapped service_number isid_number (λ (m : Member). m.isid) (in_vid v ms) (λ m n h i less. by m n h i less) (in_vid_ascends v ms up)
+  where
+    vid : (m : Member) → Has m (in_vid v ms) → m.vid.value ≡ v.value
+    vid m h = eqb-true m.vid.value v.value (filter_has (λ (k : Member). k.vid.value == v.value) m ms h).1
+
+    by : (m n : Member) → Has m (in_vid v ms) → Has n (in_vid v ms) → service_number m < service_number n → m.isid.value < n.isid.value
+    by m n h i less = omega (arith, less, vid m h, vid n i)
+
+-- are those members, each as its service
+pub services_alone : (v : Vid) (ms : List Member) → Ascends service_number ms → services_in v ms ≡ map service_of (in_vid v ms)
+services_alone v ms up =
+    ap (map (service_among (in_vid v ms))) (ascending_again isid_number (map (λ m. m.isid) (in_vid v ms)) (isids_ascend v ms up))
+    ∙ (map_map (service_among (in_vid v ms)) (λ (m : Member). m.isid) (in_vid v ms)
+    ∙ map_same (λ (m : Member). service_among (in_vid v ms) m.isid) service_of (in_vid v ms) (λ m h. (let f = filter_has (λ (k : Member). k.vid.value == v.value) m ms h in service_alone ms v m up f.0 (eqb-true m.vid.value v.value f.1))))
+
+-- so are they written
+pub alone_written : (l : Local) (ms : List Member) → Ascends service_number ms → flat_map (λ v. capability_tlv (Services (own_mac l) v (map service_of (in_vid v ms)))) (vids_in ms) ≡ service_tlvs (record l { attached = ms })
+alone_written l ms up =
+    flat_map_agree (λ v. capability_tlv (Services (own_mac l) v (map service_of (in_vid v ms)))) (λ v. capability_tlv (Services (own_mac l) v (services_in v ms))) (vids_in ms)
+    (λ v. ap (λ (ss : List Service). capability_tlv (Services (own_mac l) v ss)) (sym (services_alone v ms up)))

@@ -1,65 +1,35 @@
 -- The services of a system: pairs of a base VID and an I-SID, each once, ascending.
-use Rattle.std.proofs.Common.{◌≡◌, ◌≢◌, ℕ, ◌≤◌, ◌<◌, List, [], ◌∷◌, length, map, refl, sym, ap, ◌∙◌, subst, inl, inr, arith}
+use Rattle.std.proofs.Common.{◌≡◌, ◌≢◌, ℕ, ◌≤◌, ◌<◌, List, [], ◌∷◌, ◌++◌, length, refl, sym, ap, ◌∙◌, subst, inl, inr, arith}
 use Rattle.std.specs.List.{AllByRecursion}
+use Rattle.std.specs.Prelude.{Result, Ok, Err, OnOk}
 use Rattle.spb_types.specs.Ascending.{Ascends}
 use Rattle.spb_types.specs.declared.address.SystemId.{SystemId}
 use Rattle.spb_types.specs.declared.graph.Member.{Member}
-use Rattle.spb_types.specs.declared.limits.TheConstants.{GREATEST_ISID}
 use Rattle.spb_types.specs.declared.service.Isid.{Isid}
 use Rattle.spb_types.specs.declared.service.Vid.{Vid}
-use Rattle.spb_content.specs.Local.{IsAttached, AreInOneVid, isids_in, isid_number}
-use Rattle.spb_content.specs.Members.{pair_of, pair_number, pairs_of, member_for, merged}
-use Rattle.spb_content.proofs.Members.{Has, all_has, has_all, has_map, map_has}
-use Rattle.spb_content.proofs.Ascended.{ascending_ascends, has_ascending, numbered_ascending, Numbered}
+use Rattle.spb_content.specs.declared.local.Local.{Local}
+use Rattle.spb_content.specs.Local.{IsAttached, AreInOneVid, isids_in, isid_number, service_tlvs}
+use Rattle.spb_content.specs.Members.{pair_of, merged, HasNumbers}
+use Rattle.spb_content.specs.Folding.{service_number}
+use Rattle.spb_content.proofs.Members.{Has, all_has, has_all, weaker}
+use Rattle.spb_content.proofs.Ascended.{Numbered}
 use Rattle.spb_content.proofs.Kept.{Apart, length-within}
 use Rattle.spb_content.proofs.Written.{attached_isid}
 use Rattle.spb_content.proofs.Lengths.{in_one_vid}
-use Rattle.spb_content.proofs.AnyOrder.{ArePaired}
+use Rattle.spb_content.proofs.Covered.{ArePaired, AreCovered, covered_paired}
+use Rattle.spb_content.proofs.AnyOrder.{isids_same, tlvs_same}
+use Rattle.spb_content.proofs.Merged.{merged_ascends, merged_paired, merged_covered, covered_merged}
 
--- the number of a member's pair
-abbrev pub service_number : Member → ℕ
-service_number m = pair_number (pair_of m)
+-- what is attached has numbers of 32 and 16 bits
+pub attached_numbers : (ms : List Member) → AllByRecursion IsAttached ms → AllByRecursion HasNumbers ms
+attached_numbers ms each = weaker IsAttached HasNumbers ms (λ m at. record { isid = omega (arith, at.isid_high); vid = omega (arith, at.vid_high) }) each
 
--- ---- a pair by its number
+-- the members that a system is by what is attached say the same as that
+pub attached_covered : (x : SystemId) (ms : List Member) → AllByRecursion IsAttached ms → AreCovered (merged x ms) ms
+attached_covered x ms each = merged_covered x ms (attached_numbers ms each)
 
-pub pair_is : (p q : Vid × Isid) → p.1.value ≤ GREATEST_ISID → q.1.value ≤ GREATEST_ISID → pair_number p ≡ pair_number q → p ≡ q
-pair_is p q low high e =
-    let vids : p.0.value ≡ q.0.value = omega (arith, e, low, high) in
-    let isids : p.1.value ≡ q.1.value = omega (arith, e, low, high) in
-    λ i. (record { value = vids i }, record { value = isids i })
-
--- ---- the members that a system is
-
-pub ascends_mapped : {A B : Type 0} (number : A → ℕ) (other : B → ℕ) (f : A → B) (xs : List A) → ((x y : A) → Has x xs → Has y xs → number x < number y → other (f x) < other (f y)) → Ascends number xs → Ascends other (map f xs)
-ascends_mapped number other f [] keeps p = tt
-ascends_mapped number other f (x ∷ xs) keeps p = (
-  has_all (λ z. other (f x) < other z) (map f xs) (λ z h. let m = map_has f z xs h in subst (λ w. other (f x) < other w) (sym m.2) (keeps x m.0 (inl refl) (inr m.1) (all_has (λ w. number x < number w) m.0 xs p.0 m.1))),
-  ascends_mapped number other f xs (λ a b h i. keeps a b (inr h) (inr i)) p.1,
-)
-
-pub merged_ascends : (x : SystemId) (ms : List Member) → Ascends service_number (merged x ms)
-merged_ascends x ms = ascends_mapped pair_number service_number (member_for x) (pairs_of ms) (λ p q h i less. less) (ascending_ascends pair_number (map pair_of ms))
-
--- each of them has the pair of a port
-pub merged_paired : (x : SystemId) (ms : List Member) → ArePaired (merged x ms) ms
-merged_paired x ms m h =
-    let p = map_has (member_for x) m (pairs_of ms) h in
-    let n = map_has pair_of p.0 ms (has_ascending pair_number p.0 (map pair_of ms) p.1) in
-    record { item = n.0; has = n.1; is = ap pair_of p.2 ∙ n.2 }
-
--- and each port has the pair of one of them
-pub paired_merged : (x : SystemId) (ms : List Member) → AllByRecursion IsAttached ms → ArePaired ms (merged x ms)
-paired_merged x ms each m h =
-    let n = numbered_ascending pair_number (pair_number (pair_of m)) (map pair_of ms) (record { item = pair_of m; has = has_map pair_of m ms h; is = refl }) in
-    let p = map_has pair_of n.item ms (has_ascending pair_number n.item (map pair_of ms) n.has) in
-    let there : IsAttached p.0 = all_has IsAttached p.0 ms each p.1 in
-    let here : IsAttached m = all_has IsAttached m ms each h in
-    let low : n.item.1.value ≤ GREATEST_ISID = subst (λ (q : Vid × Isid). q.1.value ≤ GREATEST_ISID) (sym p.2) there.isid_high in
-    record {
-      item = member_for x n.item;
-      has = has_map (member_for x) n.item (pairs_of ms) n.has;
-      is = sym (pair_is n.item (pair_of m) low here.isid_high n.is);
-    }
+pub covered_attached : (x : SystemId) (ms : List Member) → AllByRecursion IsAttached ms → AreCovered ms (merged x ms)
+covered_attached x ms each = covered_merged x ms (attached_numbers ms each)
 
 -- ---- what ports have, the members have
 
@@ -109,3 +79,19 @@ services_are_few x ms one =
     (λ m h.
     let n = paired m h in
     subst (λ k. Numbered isid_number k (isids_in ms)) (sym (ap (λ (p : Vid × Isid). p.1.value) n.is)) (attached_isid n.item ms n.has))
+
+-- ---- what is written of attached members is that of the members that they make a system
+
+pub merged_attached : (x : SystemId) (ms : List Member) → AllByRecursion IsAttached ms → AllByRecursion IsAttached (merged x ms)
+merged_attached x ms each = paired_attached (merged x ms) ms (merged_paired x ms) each
+
+pub merged_few : (x : SystemId) (ms : List Member) → AllByRecursion IsAttached ms → length (isids_in ms) ≤ 60 → length (isids_in (merged x ms)) ≤ 60
+merged_few x ms each few =
+    subst (λ (is : List Isid). length is ≤ 60) (isids_same ms (merged x ms) (covered_paired ms (merged x ms) (covered_attached x ms each)) (merged_paired x ms)) few
+
+pub merged_put : {E : Type 0} (l : Local) (ms slice : List Member) (before after : List ℕ) (r : Result (Unit {0}) E) → AllByRecursion IsAttached ms → slice ≡ merged l.config.id.system ms
+    → OnOk r (after ≡ before ++ service_tlvs (record l { attached = slice })) → OnOk r (after ≡ before ++ service_tlvs (record l { attached = ms }))
+merged_put l ms slice before after (Ok u) each is put =
+    let x : SystemId = l.config.id.system in
+    put ∙ ap (λ tlvs. before ++ tlvs) (ap (λ (ns : List Member). service_tlvs (record l { attached = ns })) is ∙ tlvs_same l (merged x ms) ms (attached_covered x ms each) (covered_attached x ms each))
+merged_put l ms slice before after (Err e) each is put = tt

@@ -14,8 +14,10 @@ use Rattle.spb_content.specs.Fragments.{services_by, part_of, unless_none, fragm
 use Rattle.spb_content.specs.Laws.{HasFields, AreConfigured, ServicesAreFew, FragmentsAreFirst}
 use Rattle.spb_content.proofs.Members.{Has, all_has, has_all}
 use Rattle.spb_content.proofs.Kept.{length-ascending}
-use Rattle.spb_content.proofs.AnyOrder.{ArePaired}
-use Rattle.spb_content.proofs.Pairs.{service_number, merged_ascends, merged_paired, paired_attached, paired_one_vid, services_are_few}
+use Rattle.spb_content.specs.Folding.{service_number}
+use Rattle.spb_content.proofs.Covered.{ArePaired}
+use Rattle.spb_content.proofs.Merged.{merged_ascends, merged_paired}
+use Rattle.spb_content.proofs.Pairs.{paired_attached, paired_one_vid, services_are_few}
 use Rattle.spb_content.proofs.Written.{all_take}
 
 -- ---- the parts of a list

@@ -12,7 +12,7 @@ use Rattle.spb_content.specs.declared.content.Content.{Content}
 use Rattle.spb_content.specs.Graph.{Contents, bridge_of, members_of}
 use Rattle.spb_content.specs.Building.{mark_at, edge_for, edges_after, edges_from, kept, with_said, graph_among}
 
-next_item : {X : Type 0} (xs : List X) (i : ℕ) (d : X) → i < length xs → drop i xs ≡ get_or xs i d ∷ drop (i + 1) xs
+pub next_item : {X : Type 0} (xs : List X) (i : ℕ) (d : X) → i < length xs → drop i xs ≡ get_or xs i d ∷ drop (i + 1) xs
 next_item xs i d lt = rw (add-one, drop-cons xs i d) refl
 
 option_first : {X : Type 0} (o : Option X) (xs : List X) → cons_option o xs ≡ option_to_list o ++ xs

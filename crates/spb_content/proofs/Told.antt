@@ -23,7 +23,7 @@ use Rattle.spb_content.proofs.Members.{has_all}
 use Rattle.spb_content.proofs.Written.{is_inst, is_services, all_drop, all_take}
 use Rattle.spb_content.proofs.Again.{few_of, services_at, inst_at, parts, several, several_alone, others, others_alone, read_services, no_inst, read_again}
 use Rattle.spb_content.proofs.AnyOrder.{listing, listing_same}
-use Rattle.spb_content.proofs.Pairs.{merged_paired, paired_merged}
+use Rattle.spb_content.proofs.Pairs.{attached_covered, covered_attached}
 use Rattle.spb_content.proofs.Listed.{listed, listed_again}
 use Rattle.spb_content.proofs.Parts.{parts_together, parts_are_together, taken, dropped, is_part, part_fields, services_ascend, services_attached}
 
@@ -150,7 +150,7 @@ tail_144 l (suc n) k is fields =
 -- what is said of the services of a bridge is what is said of its ports
 pub services_said : (l : Local) → IsLocal l → listing (own_mac l) (services_by l) ≡ listing (own_mac l) l.attached
 services_said l is =
-    listing_same (own_mac l) (services_by l) l.attached (merged_paired l.config.id.system l.attached) (paired_merged l.config.id.system l.attached is.attached)
+    listing_same (own_mac l) (services_by l) l.attached (attached_covered l.config.id.system l.attached is.attached) (covered_attached l.config.id.system l.attached is.attached)
 
 services_told : (l : Local) (n k : ℕ) → AllByRecursion IsAttached (services_by l) → flat_map services_of (caps l n k) ≡ map (listed (own_mac l)) (parts_together (services_by l) n k)
 unfolding caps

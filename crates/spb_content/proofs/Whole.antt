@@ -19,6 +19,7 @@ use Rattle.spb_content.proofs.Members.{Has, has_from_contains, contains_from_has
 use Rattle.spb_content.proofs.Links.{same_is, same_self, entries_of, said_for, entry_is, some_is, some_same}
 use Rattle.spb_content.proofs.Chosen.{AreChosen, are_reached, said_has}
 use Rattle.spb_content.proofs.Made.{Made}
+use Rattle.spb_content.proofs.Merged.{merged_systems}
 use Rattle.spb_content.proofs.Joined.{are_edges, between, costs, ports, within, holds_far}
 use Rattle.spb_types.specs.declared.limits.TheConstants.{MOST_GRAPH_BRIDGES}
 
@@ -106,14 +107,7 @@ is_bridge list P ks x h holds =
 -- ---- members
 
 member_system : (c : SystemId × Content) (m : Member) → Has m (members_of c) → m.system ≡ c.0
-member_system c m h = at (filter_map_has (member_of c.0) m c.1.services h)
-  where
-    of_test : (x : SystemId) (b : Bool) (n : Member) → n.system ≡ x → cond b (Some n) None ≡ Some m → m.system ≡ x
-    of_test x true n e k = ap (λ (t : Member). t.system) (sym (some_same n m k)) ∙ e
-    of_test x false n e k = absurd cc
-
-    at : (s : _) × Has s c.1.services × (member_of c.0 s ≡ Some m) → m.system ≡ c.0
-    at (s, k, e) = of_test c.0 (_) (record { system = c.0; isid = s.2.isid; vid = s.1 }) refl e
+member_system c m h = all_has (λ (n : Member). n.system ≡ c.0) m (members_of c) (merged_systems c.0 (filter_map (member_of c.0) c.1.services)) h
 
 pub members_are : (list : Contents) (P : SystemId → Type 0) (ks : Contents) (m : Member) → AreChosen list P ks → Contains (flat_map members_of ks) m → Contains (flat_map members_of list) m × P m.system
 members_are list P ks m h k =

@@ -15,7 +15,7 @@ use Rattle.spb_tlvs.specs.Tlv.{tlv}
 use Rattle.spb_tlvs.specs.Neighbour.{neighbours_value}
 use Rattle.spb_tlvs.specs.Capability.{IsInst, IsTree, IsService, IsServices}
 use Rattle.spb_tlvs.specs.declared.capability.Service.{Service}
-use Rattle.spb_content.specs.Local.{neighbour_tlvs, plan_number, vid_number, isid_number, vids_in, isids_in, in_vid, services_in, service_with, IsAttached}
+use Rattle.spb_content.specs.Local.{neighbour_tlvs, plan_number, vid_number, isid_number, vids_in, isids_in, in_vid, services_in, service_among, IsAttached}
 use Rattle.spb_content.proofs.Members.{Has, all_has, has_all, has_map, map_has, filter_has}
 use Rattle.spb_content.proofs.Ascended.{ascending_ascends, has_ascending, numbered_ascending, Numbered}
 use Rattle.spb_content.proofs.Kept.{all_ascending, length-ascending, length-within, apart_ascends}
@@ -93,7 +93,7 @@ is_services vid attached each few h =
     record {
       low = subst (λ (v : Vid). 1 ≤ v.value) (sym a.2) at.vid_low;
       high = subst (λ (v : Vid). v.value ≤ GREATEST_VID) (sym a.2) at.vid_high;
-      few = omega (arith, few, isids_within vid attached, length-map (isids_in (in_vid vid attached)) service_with);
+      few = omega (arith, few, isids_within vid attached, length-map (isids_in (in_vid vid attached)) (service_among (in_vid vid attached)));
       each = All-from_recursion IsService _ (has_all IsService (services_in vid attached) one);
     }
   where
@@ -105,7 +105,7 @@ is_services vid attached each few h =
 
     one : (s : Service) → Has s (services_in vid attached) → IsService s
     one s i =
-        let o = map_has service_with s (isids_in (in_vid vid attached)) i in
+        let o = map_has (service_among (in_vid vid attached)) s (isids_in (in_vid vid attached)) i in
         let is = isid_is o.0 o.1 in
         subst (λ (t : Service). IsService t) (sym o.2) (record { low = is.0; high = is.1 })
 

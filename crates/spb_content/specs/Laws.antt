@@ -1,5 +1,5 @@
 -- The laws of what is written and read.
-use Rattle.std.specs.Prelude.{◌≡◌, ◌↔◌, ℕ, suc, ◌+◌, ◌*◌, ◌≤◌, ◌<◌, ◌^◌, List, [], length, map, Some, None, Contains, IsTrue}
+use Rattle.std.specs.Prelude.{◌≡◌, ◌↔◌, ℕ, suc, ◌+◌, ◌*◌, ◌≤◌, ◌<◌, ◌^◌, ◌||◌, true, List, [], length, map, Some, None, Contains, IsTrue}
 use Rattle.std.specs.List.{AllByRecursion}
 use Rattle.spb_types.specs.Ascending.{Ascends}
 use Rattle.spb_types.specs.Graph.{IsDistinct, IsValid, IsValidFor, cost_between, port_between}
@@ -16,7 +16,8 @@ use Rattle.spb_content.specs.declared.local.Local.{Local}
 use Rattle.spb_content.specs.Local.{IsLocal, IsPart, plan_number, vid_number, isid_number, trees_of, vids_in, isids_in, own_mac, said_by, content_bytes}
 use Rattle.spb_content.specs.Content.{content_in}
 use Rattle.spb_content.specs.Fragments.{services_by, part_of, fragment, fragments_from, tlvs_together}
-use Rattle.spb_content.specs.Graph.{Contents, systems_in, cost_said, port_said, HasOwnPorts}
+use Rattle.spb_content.specs.Members.{merged}
+use Rattle.spb_content.specs.Graph.{Contents, members_of, systems_in, cost_said, port_said, HasOwnPorts}
 use Rattle.spb_content.specs.Building.{said_graph}
 use Rattle.spb_types.specs.declared.limits.TheConstants.{MOST_ISIDS, MOST_PORTS, MOST_GRAPH_BRIDGES}
 
@@ -129,6 +130,17 @@ FragmentsFit = (l : Local) (k : ℕ) (tlvs : List ℕ) → IsLocal l → HasFiel
 abbrev pub FragmentsAreOctets : Type 0
 FragmentsAreOctets = (l : Local) (k : ℕ) (tlvs : List ℕ) → IsLocal l → HasFields l → HasOctets l
     → fragment l k ≡ Some tlvs → IsBytes tlvs
+
+-- ---- members
+
+-- each attached port sends or receives
+abbrev pub AreActive : Local → Type 0
+AreActive l = AllByRecursion (λ m. (m.transmit || m.receive) ≡ true) l.attached
+
+-- what a bridge says, read again, makes it the members that its ports make it
+abbrev pub MembersAreRead : Type 0
+MembersAreRead = (l : Local) → IsLocal l → AreActive l
+    → members_of (l.config.id.system, said_by l) ≡ merged l.config.id.system l.attached
 
 -- ---- the graph of all that is said
 

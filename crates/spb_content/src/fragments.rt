@@ -23,7 +23,7 @@ const USUAL_LENGTH: usize = 256;
 ///
 /// The services are the different pairs of a base VID and an I-SID of the attached ports, ascending. Number k has those
 /// with the places 60k to 60k + 59: for each base VID among them, ascending, a TLV 144 with one SPBM-SI and those
-/// I-SIDs, ascending, with T and R set.
+/// I-SIDs, ascending, each with T set where one of its ports sends, and R where one receives.
 ///
 /// The source is below 1,048,576. There are at most 16 VIDs, which differ and are 1 to 4094, with ECT numbers 1 to 16.
 /// The metrics are below 16,777,216. There are at most [`spb_types::limits::MOST_ISIDS`] different I-SIDs, each 1 to

@@ -1,7 +1,7 @@
 //! The laws of what is written and read, and of the graph of all that is said. Each is the contract of a function that
 //! does nothing.
 ghost use Rattle.spb_content.specs.Members.{MergedSays, MergedAgain};
-ghost use Rattle.spb_content.specs.Laws.{ReadAgain, SameIsWritten, WrittenIsSame, OrderSaysNothingOfContent, TreesAscend, VidsAscend, IsidsAscend, OwnFits, ServicesAreFew, FragmentsAreRead, OthersSayServices, FewAreOne, FragmentsAreFirst, FragmentsFit, ContentIsOctets, FragmentsAreOctets, SaidGraphHasAllLinks};
+ghost use Rattle.spb_content.specs.Laws.{ReadAgain, SameIsWritten, WrittenIsSame, OrderSaysNothingOfContent, TreesAscend, VidsAscend, IsidsAscend, OwnFits, ServicesAreFew, FragmentsAreRead, OthersSayServices, FewAreOne, FragmentsAreFirst, FragmentsFit, ContentIsOctets, FragmentsAreOctets, MembersAreRead, SaidGraphHasAllLinks};
 
 /// What a bridge of at most 60 I-SIDs writes in one is read as what it says.
 pub fn content_again()
@@ -66,6 +66,12 @@ pub fn fragments_fit()
 pub fn content_is_octets()
     ensures one { ContentIsOctets }
     ensures fragments { FragmentsAreOctets }
+{}
+
+/// What a bridge says, read again, makes it the members that its attached ports make it, if each of these sends or
+/// receives.
+pub fn members_are_read()
+    ensures { MembersAreRead }
 {}
 
 /// The graph of all that is said, reached or not, is valid, and has the costs and ports that are said, where at most

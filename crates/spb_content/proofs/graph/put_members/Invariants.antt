@@ -1,8 +1,0 @@
-use Rattle.std.proofs.Common.{◌≡◌, ◌++◌, drop}
-use Rattle.std.specs.List.{filter_map}
-use Rattle.spb_content.specs.Graph.{member_of, members_of}
-use Rattle.spb_content.proofs.graph.put_members.Given as goal
-
--- the members so far, and then those of the services that are left
-abbrev pub invariant-loop-service : goal.invariant-loop-service
-invariant-loop-service l = l.members ++ filter_map (member_of l.system) (drop l.service-index l.service-items) ≡ l.fn.members ++ members_of l.said
