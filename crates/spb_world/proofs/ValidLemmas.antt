@@ -6,14 +6,12 @@ use Rattle.spb_types.specs.Graph.{IsAmong, IsDistinct, IsBridge, systems_of, joi
 use Rattle.spb_types.specs.Address.{same_system}
 use Rattle.spb_types.specs.declared.address.SystemId.{SystemId}
 use Rattle.spb_types.specs.declared.graph.Edge.{Edge}
-use Rattle.spb_types.specs.declared.graph.Member.{Member}
-use Rattle.spb_types.specs.declared.service.Attachment.{Attachment}
 use Rattle.ect_trees.proofs.Among.{same_is, same_self}
-use Rattle.spb_content.proofs.Members.{Has, all_has, has_all}
+use Rattle.spb_content.proofs.Members.{has_all}
 use Rattle.spb_world.specs.declared.declaration.DeclaredLink.{DeclaredLink}
-use Rattle.spb_world.specs.World.{World, Bridges, things_of, graph_bridges, system_at, edge_of, live_edge, member_at, world_members, world_graph, is_between, is_at_port, IsLink, AreApart, AllApart, IsAttachedIn, Sound}
+use Rattle.spb_world.specs.World.{World, Bridges, things_of, graph_bridges, system_at, edge_of, live_edge, world_members, world_graph, is_between, is_at_port, IsLink, AreApart, AllApart, Sound}
 use Rattle.spb_world.proofs.ListLemmas.{All-map}
-use Rattle.spb_world.proofs.MemberLemmas.{member_attached}
+use Rattle.spb_world.proofs.MemberLemmas.{member_there}
 use Rattle.spb_world.proofs.WorldLemmas.{ports_at-le}
 
 length-graph_bridges : (bs : Bridges) → length (graph_bridges bs) ≡ length bs
@@ -110,10 +108,8 @@ one_edge bs d (l ∷ ls) links apart = put (live_edge bs l) refl (one_edge bs d 
 -- each member is a bridge
 members_are : (w : World) → Sound w → AllByRecursion (λ m. IsBridge (world_graph w) m.system) (world_members w)
 members_are w sound =
-    has_all (λ m. IsBridge (world_graph w) m.system) (world_members w) (λ m h. at m (member_attached w m h))
-  where
-    at : (m : Member) → (x : ℕ × Attachment) × Has x w.attached × (m ≡ member_at w.bridges x) → IsBridge (world_graph w) m.system
-    at m (x, h, is) = subst (λ (n : Member). IsBridge (world_graph w) n.system) (sym is) (among_at w.bridges x.0 (all_has (IsAttachedIn w.bridges w.services) x w.attached sound.attached h).bridge)
+    has_all (λ m. IsBridge (world_graph w) m.system) (world_members w)
+    (λ m h. let at = member_there w m h in subst (IsBridge (world_graph w)) (sym at.system) (among_at w.bridges at.place at.within))
 
 pub valid : (w : World) → Sound w → IsValid (world_graph w)
 valid w sound = record {

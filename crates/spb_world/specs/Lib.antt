@@ -7,3 +7,4 @@ pub mod Declaring
 pub mod Services
 pub mod Attaching
 pub mod Naming
+pub mod Changing

@@ -1,6 +1,6 @@
--- The members of services, made bridge by bridge.
-use Rattle.std.specs.Prelude.{ℕ, ◌+◌, ◌≤◌, List, [], ◌∷◌, ◌++◌}
-use Rattle.std.specs.List.{AllByRecursion}
+-- The members of services, made of a list of what is attached for each bridge.
+use Rattle.std.specs.Prelude.{ℕ, ◌≤◌, List, [], flat_map}
+use Rattle.std.specs.List.{AllByRecursion, range_with_len, slice_index_or}
 use Rattle.spb_types.specs.declared.graph.Member.{Member}
 use Rattle.spb_types.specs.declared.limits.TheConstants.{GREATEST_ISID}
 use Rattle.spb_types.specs.declared.service.Attachment.{Attachment}
@@ -10,8 +10,10 @@ use Rattle.spb_world.specs.World.{Bridges, system_at, bridge_members}
 abbrev pub HaveIsids : List Attachment → Type 0
 HaveIsids attached = AllByRecursion (λ a. a.isid.value ≤ GREATEST_ISID) attached
 
--- the members that the bridges from place n on are by a list of what is attached for each bridge
-abbrev pub members_from : Bridges → ℕ → List (List Attachment) → List Member
-members_from bridges n [] = []
-members_from bridges n (attached ∷ lists) =
-    bridge_members (system_at bridges n) attached ++ members_from bridges (n + 1) lists
+-- the members that the bridge at a place is by the list that has its place
+abbrev pub members_in : Bridges → List (List Attachment) → ℕ → List Member
+members_in bridges lists i = bridge_members (system_at bridges i) (slice_index_or lists i [])
+
+-- those of the first n bridges
+abbrev pub members_up_to : Bridges → List (List Attachment) → ℕ → List Member
+members_up_to bridges lists n = flat_map (members_in bridges lists) (range_with_len 0 n)

@@ -1,5 +1,5 @@
 //! What is attached to the customer ports, a list for each bridge.
-ghost use Rattle.std.specs.Prelude.{◌≡◌, [], ◌∷◌, ◌++◌, length, OnOk, OnErr};
+ghost use Rattle.std.specs.Prelude.{◌≡◌, [], ◌∷◌, ◌++◌, length, IfOk, OnOk, OnErr};
 ghost use Rattle.std.specs.List.{slice_index_or};
 ghost use Rattle.spb_types.specs.Places.{changed_at};
 ghost use Rattle.fdb_build.specs.Making.{lists_in};
@@ -36,6 +36,16 @@ impl Attached {
             lists: Vec::new(alloc),
             alloc,
         }
+    }
+
+    /// A copy.
+    pub fn copied(&self) -> Result<Self, NoMemory>
+        ensures { IfOk result (λ copy. copy ≡ self.now) }
+    {
+        Ok(Attached {
+            lists: copied_lists(self.alloc, self.lists.as_slice())?,
+            alloc: self.alloc,
+        })
     }
 
     /// How many lists there are.
@@ -106,6 +116,17 @@ fn push_at(
         None => Ok(()),
         Some(list) => push(list, attachment),
     }
+}
+
+/// A copy of the lists.
+fn copied_lists(alloc: Global, lists: &[Vec<Attachment>]) -> Result<Vec<Vec<Attachment>>, NoMemory>
+    ensures { IfOk result (λ copy. lists_in copy.items ≡ lists_in lists.now) }
+{
+    let mut copy = Vec::with_capacity(alloc, lists.len())?;
+    for list in lists {
+        copy.push(Vec::from_slice(alloc, list.as_slice())?)?;
+    }
+    Ok(copy)
 }
 
 /// Leaves out what is attached at a customer port.

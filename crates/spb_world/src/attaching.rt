@@ -1,8 +1,9 @@
 //! Tests of customer ports and frames, and of what is attached at one bridge.
-ghost use Rattle.std.specs.Prelude.{◌≡◌, ◌==◌, not, length, nat_eq};
+ghost use Rattle.std.specs.Prelude.{◌≡◌, ◌&&◌, ◌==◌, not, length, nat_eq};
 ghost use Rattle.std.specs.List.{list_any};
 ghost use Rattle.std.specs.List.Sorted.{IsSorted};
 ghost use Rattle.std.specs.Ordering.{nat_cmp};
+ghost use Rattle.spb_types.specs.Service.{sends};
 ghost use Rattle.bridge_api.specs.Config.{different};
 ghost use Rattle.spb_world.specs.Attaching as attaching;
 
@@ -37,6 +38,22 @@ pub fn is_attached(attached: &[Attachment], port: u64) -> bool
     ensures { result ≡ list_any (λ a. a.port == port) attached.now }
 {
     attached.iter().any(|attachment| is_at(attachment, port))
+}
+
+/// Whether this is attached to a customer port, and sends.
+fn is_sender(attachment: &Attachment, port: u64) -> bool
+    ensures { result ≡ ((attachment.now.port == port) && sends attachment.now.mode) }
+{
+    is_at(attachment, port) && attachment.mode.sends()
+}
+
+/// Whether what is attached to a customer port sends.
+pub fn is_sending(attached: &[Attachment], port: u64) -> bool
+    ensures { result ≡ list_any (λ a. (a.port == port) && sends a.mode) attached.now }
+{
+    attached
+        .iter()
+        .any(|attachment| is_sender(attachment, port))
 }
 
 /// Whether this is attached to an I-SID.

@@ -1,8 +1,7 @@
 //! The graph of the wiring, part by part: bridges, edges of links that are up, members of services.
-ghost use Rattle.std.specs.Prelude.{◌≡◌, ◌++◌, ℕ, [], map, OnOk, IfOk};
+ghost use Rattle.std.specs.Prelude.{◌≡◌, ◌++◌, ℕ, [], length, map, OnOk, IfOk};
 ghost use Rattle.std.specs.List.{filter_map, slice_index_or};
-ghost use Rattle.spb_content.specs.Laws.{IsAscendingOf};
-ghost use Rattle.bridge_api.specs.Own.{member_of};
+ghost use Rattle.bridge_api.specs.Own as own;
 ghost use Rattle.spb_world.specs.World as state;
 ghost use Rattle.spb_world.specs.Members as made;
 ghost use Rattle.spb_world.specs.Systems as paths;
@@ -10,6 +9,7 @@ ghost use Rattle.spb_world.specs.Systems as paths;
 use crate::attached::Attached;
 use crate::{DeclaredBridge, DeclaredLink};
 use indexmap::IndexMap;
+use spb_content::merge;
 use spb_types::{Attachment, Edge, GraphBridge, Mac, Member, Name, NoMemory, SystemId};
 use std::alloc::Global;
 
@@ -78,41 +78,32 @@ pub fn graph_edges(
     Ok(list)
 }
 
-/// The base VID and the I-SID of what is attached in one number, by which they order in turn.
-fn number_at_bridge(attachment: &Attachment) -> u64
-    ensures { result ≡ made.number_at_bridge attachment.now }
+/// The member that an attached customer port makes its bridge.
+fn member_of(system: SystemId, attachment: &Attachment) -> Member
+    ensures { result ≡ own.member_of system attachment.now }
 {
-    let vid = attachment.vid.value;
-    let isid = attachment.isid.value;
-    u64::from(vid) * 16_777_216 + u64::from(isid)
+    Member {
+        system,
+        isid: attachment.isid,
+        vid: attachment.vid,
+        transmit: attachment.mode.sends(),
+        receive: attachment.mode.receives(),
+    }
 }
 
-/// One of what is attached at a bridge for each base VID and I-SID, in ascending order of these.
-fn one_of_each_service(alloc: Global, attached: &[Attachment]) -> Result<Vec<Attachment>, NoMemory>
-    ensures { IfOk result (λ list. IsAscendingOf made.number_at_bridge attached.now list.items) }
-{
-    let mut list = Vec::from_slice(alloc, attached)?;
-    list.sort_unstable_by_key(|attachment| number_at_bridge(attachment));
-    list.dedup_by_key(|attachment| number_at_bridge(attachment));
-    Ok(list)
-}
-
-/// Puts a member for each of what is attached at a bridge behind the others.
-fn push_members(
-    members: &mut Vec<Member>,
+/// The member that each of what is attached at a bridge makes it.
+fn port_members(
+    alloc: Global,
     system: SystemId,
     attached: &[Attachment],
-) -> Result<(), NoMemory>
-    ensures { OnOk result (members.new.items ≡ members.old.items ++ map (member_of system) attached.now) }
+) -> Result<Vec<Member>, NoMemory>
+    ensures { IfOk result (λ list. list.items ≡ map (own.member_of system) attached.now) }
 {
-    for attachment in attached {
-        members.push(Member {
-            system,
-            isid: attachment.isid,
-            vid: attachment.vid,
-        })?;
-    }
-    Ok(())
+    let list = attached
+        .iter()
+        .map(|attachment| member_of(system, attachment))
+        .collect(alloc)?;
+    Ok(list)
 }
 
 /// Puts the members that what is attached at a bridge makes it behind the others: one for each base VID and I-SID, in
@@ -124,10 +115,12 @@ fn put_members(
     attached: &[Attachment],
 ) -> Result<(), NoMemory>
     requires { made.HaveIsids attached.now }
-    ensures { OnOk result (members.new.items ≡ members.old.items ++ made.bridge_members system attached.now) }
+    ensures { OnOk result (members.new.items ≡ members.old.items ++ state.bridge_members system attached.now) }
 {
-    let services = one_of_each_service(alloc, attached)?;
-    push_members(members, system, services.as_slice())
+    let each = port_members(alloc, system, attached)?;
+    let merged = merge(alloc, system, each.as_slice())?;
+    members.extend_from_slice(merged.as_slice())?;
+    Ok(())
 }
 
 /// The members of services: for each bridge in order of declaration one for each base VID and I-SID, in ascending order
@@ -138,10 +131,10 @@ pub fn graph_members(
     attached: &Attached,
 ) -> Result<Vec<Member>, NoMemory>
     requires { (place : ℕ) → made.HaveIsids (slice_index_or attached.now place []) }
-    ensures { IfOk result (λ list. list.items ≡ made.members_from bridges.now.entries 0 attached.now) }
+    ensures { IfOk result (λ list. list.items ≡ made.members_up_to bridges.now.entries attached.now (length bridges.now.entries)) }
 {
     let mut members = Vec::new(alloc);
-    for place in 0..attached.count() {
+    for place in 0..bridges.len() {
         let system = system_at(bridges, place);
         put_members(alloc, &mut members, system, attached.at(place))?;
     }

@@ -36,6 +36,14 @@ impl Hints {
         }
     }
 
+    /// A copy.
+    pub fn copied(&self, alloc: Global) -> Result<Self, NoMemory> {
+        Ok(Hints {
+            links: Vec::from_slice(alloc, self.links.as_slice())?,
+            bridges: Vec::from_slice(alloc, self.bridges.as_slice())?,
+        })
+    }
+
     /// Makes room for the ports of one bridge more, which has the next place, and notes that.
     pub fn add_bridge(&mut self, system: SystemId) -> Result<(), NoMemory> {
         let place = self.links.len() / PORTS;

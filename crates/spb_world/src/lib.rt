@@ -15,6 +15,7 @@ pub use world::World;
 
 mod attached;
 mod attaching;
+mod changing;
 mod check;
 mod declaration;
 mod graph;

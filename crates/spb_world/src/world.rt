@@ -1,9 +1,11 @@
 //! The world of declarations: what is declared and attached, why more can't be, and the tables of the wiring.
-ghost use Rattle.std.specs.Prelude.{◌≡◌, [], ◌∷◌, ◌++◌, true, None, OnOk, OnErr};
+ghost use Rattle.std.specs.Prelude.{◌≡◌, [], ◌∷◌, ◌++◌, true, None, IfOk, OnOk, OnErr};
 ghost use Rattle.spb_world.specs.Declaring.{is_new_name, switched, links_with_metric};
 
 use crate::attached::Attached;
-use crate::attaching::{has_isid_room, is_attached, is_customer_frame, is_customer_port};
+use crate::attaching::{
+    has_isid_room, is_attached, is_customer_frame, is_customer_port, is_sending,
+};
 use crate::graph::{graph_bridges, graph_edges, graph_members, place_of_system, system_at};
 use crate::hints::Hints;
 use crate::reason::reason_unless;
@@ -77,6 +79,21 @@ impl World {
             hints: Hints::new(alloc),
             fabric: None,
         }
+    }
+
+    /// A copy, in which no fabric of the wiring is kept.
+    pub fn copied(&self, alloc: Global) -> Result<World, NoMemory>
+        ensures { IfOk result (λ world. world ≡ self.now) }
+    {
+        Ok(World {
+            vids: Vec::from_slice(alloc, self.vids.as_slice())?,
+            bridges: copied_bridges(&self.bridges)?,
+            links: copied_links(&self.links)?,
+            services: copied_services(&self.services)?,
+            attached: self.attached.copied()?,
+            hints: self.hints.copied(alloc)?,
+            fabric: None,
+        })
     }
 
     /// The base VIDs, in order of declaration.
@@ -244,6 +261,13 @@ impl World {
         is_attached(self.attached_at(place), port)
     }
 
+    /// Whether a customer port of the bridge at a place is attached and sends.
+    fn is_sending(&self, place: usize, port: u64) -> bool
+        ensures { result ≡ attaching.is_sending self.now.attached place port }
+    {
+        is_sending(self.attached_at(place), port)
+    }
+
     /// What is attached to the customer ports of the bridge at a place, in order of attaching. It costs by what is
     /// attached at this bridge.
     pub fn attached(&self, alloc: Global, place: usize) -> Result<Seq<Attachment>, NoMemory>
@@ -269,8 +293,8 @@ impl World {
         }
     }
 
-    /// The members of services: one for each bridge, base VID and I-SID, in ascending order of the bridge's place, the
-    /// base VID and the I-SID.
+    /// The members of services: for each bridge in order of declaration one for each base VID and I-SID, in ascending
+    /// order of these.
     fn members(&self, alloc: Global) -> Result<Vec<Member>, NoMemory>
         ensures { IfOk result (λ list. list.items ≡ state.world_members self.now) }
     {
@@ -491,7 +515,10 @@ impl World {
     {
         let is_range = is_customer_port(port) && is_customer_frame(frame);
         let is_there = self.is_attached(place, port);
-        reason_unless(is_range, Reason::Range).or(reason_unless(is_there, Reason::NotAttached))
+        let sends = self.is_sending(place, port);
+        reason_unless(is_range, Reason::Range)
+            .or(reason_unless(is_there, Reason::NotAttached))
+            .or(reason_unless(sends, Reason::ReceiveOnly))
     }
 
     /// Declares a base VID with the number of its ECT algorithm, which isn't refused. After NoMemory nothing changed.
@@ -623,6 +650,31 @@ impl World {
         self.fabric = None;
         set_end_metric(&mut self.links, place, side, metric);
     }
+}
+
+/// A copy of the bridges.
+fn copied_bridges(
+    bridges: &IndexMap<Name, DeclaredBridge>,
+) -> Result<IndexMap<Name, DeclaredBridge>, NoMemory>
+    ensures { IfOk result (λ copy. copy.entries ≡ bridges.now.entries) }
+{
+    Ok(bridges.clone()?)
+}
+
+/// A copy of the links.
+fn copied_links(
+    links: &IndexMap<Name, DeclaredLink>,
+) -> Result<IndexMap<Name, DeclaredLink>, NoMemory>
+    ensures { IfOk result (λ copy. copy.entries ≡ links.now.entries) }
+{
+    Ok(links.clone()?)
+}
+
+/// A copy of the services.
+fn copied_services(services: &IndexMap<Isid, Vid>) -> Result<IndexMap<Isid, Vid>, NoMemory>
+    ensures { IfOk result (λ copy. copy.entries ≡ services.now.entries) }
+{
+    Ok(services.clone()?)
 }
 
 /// Puts a thing of a new name behind the others. After NoMemory nothing changed.

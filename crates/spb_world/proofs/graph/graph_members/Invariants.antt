@@ -1,8 +1,6 @@
-use Rattle.std.proofs.Common.{◌≡◌, ◌≤◌, ◌++◌, drop}
-use Rattle.spb_world.specs.Members.{members_from}
+use Rattle.std.proofs.Common.{◌≡◌}
+use Rattle.spb_world.specs.Members.{members_up_to}
 use Rattle.spb_world.proofs.graph.graph_members.Given as goal
 
 abbrev pub invariant-loop-place : goal.invariant-loop-place
-invariant-loop-place l =
-    (l.place ≤ l.place-end) ×
-    (l.members.items ++ members_from l.bridges.entries l.place (drop l.place l.attached) ≡ members_from l.bridges.entries 0 l.attached)
+invariant-loop-place l = l.members.items ≡ members_up_to l.bridges.entries l.attached l.place
