@@ -87,8 +87,8 @@ module _ (Entered : Isid → List ℕ → Type 0) (Left : Out → Type 0) where
   -- ---- a customer port is attached, or detached
 
   found_separate : (s : State) (i port isid : ℕ) (mode : Mode) (o : Option Vid) → vid_of_isid s.world.services isid ≡ o → attach_refusal s.world i port isid ≡ None → IsSoundState s → IsSeparate Entered Left s → IsSeparate Entered Left (attached_in_found s i port isid mode o)
-  found_separate s i port isid None found none sound separate = separate
-  found_separate s i port isid (Some vid) found none sound separate =
+  found_separate s i port isid mode None found none sound separate = separate
+  found_separate s i port isid mode (Some vid) found none sound separate =
       let a = attachment_of port (record { value = isid }) vid mode in
       let t : State = record s { world = with_attachment_at s.world i a } in
       separate_stepped Entered Left t i (comes.attach a) (brought_none Entered Left t i (comes.attach a) (can_attach s i port isid vid mode sound none found) (λ v other f brings. brings) (λ v. refl)) (separate_with_world Entered Left t.world s separate)

@@ -203,7 +203,7 @@ mute_customer_port w i port =
     fails (is_sending w.attached i port)
     (Decides-at (is_sending w.attached i port) (list_any (λ a. (a.port == port) && sends a.mode) (attached_at w i))
     (any_at (λ a. (a.port == port) && sends a.mode) i w.attached)
-    (any-is (λ a. (a.port == port) && sends a.mode) (λ a. (a.port ≡ port) × (sends a.mode ≡ true)) (λ a. Decides-and (Decides-eqb a.port port) (true-is (sends a.mode))) (attached_at w i)))
+    (any-is (λ a. (a.port == port) && sends a.mode) (λ a. (a.port ≡ port) × (sends a.mode ≡ true)) (λ a. Decides-and (a.port == port) (sends a.mode) (Decides-eqb a.port port) (true-is (sends a.mode))) (attached_at w i)))
 
 -- ---- a name, a bridge
 
