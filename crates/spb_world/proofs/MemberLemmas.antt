@@ -162,6 +162,13 @@ member_there w m h =
 pub there_member : (w : World) (i : ℕ) (m : Member) → i < length w.bridges → Has m (members_at w i) → Has m (world_members w)
 there_member w i m within h = has_flat_map (members_at w) i m (range_with_len 0 (length w.bridges)) (has_place 0 (length w.bridges) i (omega arith) (omega (arith, within))) h
 
+-- its I-SID is in range
+pub member_isid : (w : World) (m : Member) → Sound w → Has m (world_members w) → m.isid.value ≤ GREATEST_ISID
+member_isid w m sound h =
+    let at = member_there w m h in
+    subst (λ (k : Member). k.isid.value ≤ GREATEST_ISID) (sym at.made.is)
+    (all_has (λ (a : Attachment). a.isid.value ≤ GREATEST_ISID) at.made.by (attached_at w at.place) (isids_at w at.place sound) at.made.among)
+
 -- where a port of a bridge sends, the bridge sends to its service
 pub port_sends : (w : World) (i : ℕ) (a : Attachment) → Sound w → i < length w.bridges → Has a (attached_at w i) → sends a.mode ≡ true → Sends (world_graph w) a.isid a.vid (system_at w.bridges i)
 port_sends w i a sound within h is =
