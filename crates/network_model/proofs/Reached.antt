@@ -1,5 +1,5 @@
 -- What a bridge reaches in a quiet network is what the wiring joins to it, and its graph is that part of the wiring.
-use Rattle.std.proofs.Common.{◌≡◌, inl, inr, ℕ, Bool, true, false, true≢false, ◌==◌, eqb-true, eq-eqb, List, [], ◌∷◌, length, Option, Some, None, IsSome, Contains, filter, flat_map, find, slice_get, if◌then◌else◌, refl, sym, ap, ◌∙◌, subst}
+use Rattle.std.proofs.Common.{◌≡◌, inl, inr, ℕ, true≢false, List, [], ◌∷◌, length, Option, Some, None, IsSome, Contains, filter, flat_map, find, slice_get, refl, sym, ap, ◌∙◌, subst}
 use Rattle.std.specs.Prelude.{◌≤◌}
 use Rattle.std.specs.Option.{option_map}
 use Rattle.std.specs.List.{filter_map}
