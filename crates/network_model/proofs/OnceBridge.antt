@@ -43,7 +43,7 @@ use Rattle.bridge_api.proofs.Octets.{AreSmall, bytes_small, octets_small, small_
 
 -- ---- where it enters
 
--- it goes everywhere: to the other ports of its service, and to the group address
+-- it goes everywhere: to the other receiving ports of its service, and to the group address
 module _ (v : BridgeView) (p : ℕ) (f : List ℕ) (a : Attachment) (at : attachment_of p v.attached ≡ Some a) (group : is_group (to_of f) ≡ true) where
   pub entry_floods : moved_by_entry p f v ≡ flooded (after_customer (tenant_of v) p f) (own_tables v) a f
   unfolding moved_by_entry
