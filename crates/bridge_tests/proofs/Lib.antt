@@ -1,3 +1,3 @@
 pub mod ManyServices
 mod Services
-mod Modes
+mod TwoPorts

@@ -1,2 +1,2 @@
 pub mod Services
-pub mod Modes
+pub mod TwoPorts

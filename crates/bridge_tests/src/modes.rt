@@ -1,7 +1,7 @@
 //! Tests of customer ports that only send or only receive.
 ghost use Rattle.std.specs.Prelude.{◌≡◌, true, false, [], ◌∷◌, OnOk};
 ghost use Rattle.spb_types.specs.declared.service.Mode.TheVariants as mode;
-ghost use Rattle.bridge_tests.specs.Modes.{HasPorts, in_100};
+ghost use Rattle.bridge_tests.specs.TwoPorts.{HasPorts, in_100};
 
 use crate::drops::counts_of;
 use crate::fixtures::{are_equal, boxed};
