@@ -21,7 +21,7 @@ use Rattle.spb_content.specs.declared.local.Local.{Local}
 use Rattle.spb_content.specs.Fragments.{unless_none, fragment, fragments_from, bodies_saying}
 use Rattle.spb_content.specs.Local.{IsLocal, content_bytes, service_tlvs}
 use Rattle.spb_content.specs.Members.{merged}
-use Rattle.spb_content.proofs.Covered.{any_has, IsPaired, IsDone, IsCovered, AreCovered}
+use Rattle.spb_content.proofs.Covered.{any_has, IsPaired, IsCovered, AreCovered}
 use Rattle.spb_content.proofs.Members.{Has, has_left, has_parts, has_map, map_has, has_filter, filter_has}
 use Rattle.spb_content.proofs.Merged.{merged_same}
 use Rattle.spb_content.proofs.Pairs.{attached_numbers}

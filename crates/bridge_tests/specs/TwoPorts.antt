@@ -1,5 +1,5 @@
 -- The customer ports of the bridges in the tests of modes.
-use Rattle.std.specs.Prelude.{◌≡◌, ℕ, List, [], ◌∷◌, length}
+use Rattle.std.specs.Prelude.{◌≡◌, ℕ, List, [], ◌∷◌}
 use Rattle.spb_types.specs.declared.service.Attachment.{Attachment}
 use Rattle.spb_types.specs.declared.service.Mode.{Mode}
 use Rattle.bridge_api.specs.Config.{vids_of}
