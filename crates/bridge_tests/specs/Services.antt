@@ -7,7 +7,8 @@ use Rattle.bridge_api.specs.View.{BridgeView}
 
 -- a customer port, attached to the I-SID of its number and a base in the VID 10
 abbrev pub service : ℕ → ℕ → Attachment
-service base port = record { port = port; isid = record { value = base + port }; vid = record { value = 10 }; mode = Both }
+service base port =
+    record { port = port; isid = record { value = base + port }; vid = record { value = 10 }; mode = Both }
 
 -- the customer ports from 1 to a count, attached so
 abbrev pub services : ℕ → ℕ → List Attachment
