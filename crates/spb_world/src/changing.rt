@@ -16,7 +16,8 @@ impl World {
     #[tactic(auto, unfolding(crate::specs::Changing::with_change))]
     pub fn after(&self, alloc: Global, change: &Command) -> Result<World, NoMemory>
         requires { changing.change_refusal self.now change.now ≡ None }
-        ensures { IfOk result (λ world. world ≡ changing.with_change self.now change.now) }
+        ensures world { IfOk result (λ world. world ≡ changing.with_change self.now change.now) }
+        ensures sound { IfOk result Sound }
     {
         let mut world = self.copied(alloc)?;
         match change {

@@ -83,7 +83,8 @@ impl World {
 
     /// A copy, in which no fabric of the wiring is kept.
     pub fn copied(&self, alloc: Global) -> Result<World, NoMemory>
-        ensures { IfOk result (λ world. world ≡ self.now) }
+        ensures world { IfOk result (λ world. world ≡ self.now) }
+        ensures sound { IfOk result state.Sound }
     {
         Ok(World {
             vids: Vec::from_slice(alloc, self.vids.as_slice())?,

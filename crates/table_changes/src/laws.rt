@@ -1,0 +1,1 @@
+//! The laws of changes. Each is the contract of a function that does nothing.
