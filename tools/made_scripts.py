@@ -67,9 +67,11 @@ class Fabric:
             return f"tick {self.bridge()}"
         bridge, port = self.bridge(), pick.randint(1, 3)
         if (bridge, port) not in self.attached:
-            self.attached[bridge, port] = True
-            return f"attach {bridge} {port} {pick.choice(self.isids)}"
-        if pick.random() < 0.2:
+            mode = pick.choice(("", "", " both", " send", " recv"))
+            self.attached[bridge, port] = mode
+            return f"attach {bridge} {port} {pick.choice(self.isids)}{mode}"
+        # A frame at a port that only receives is refused, so it is seldom chosen.
+        if pick.random() < (0.95 if self.attached[bridge, port] == " recv" else 0.2):
             del self.attached[bridge, port]
             return f"detach {bridge} {port}"
         to = pick.choice(("ffffffffffff", "0a0000000001", "0A0000000002"))

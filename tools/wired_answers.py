@@ -31,7 +31,8 @@ class Wired:
         elif keyword == "isid":
             self.isids[int(words[0])] = int(words[1])
         elif keyword == "attach":
-            self.attached[words[0], int(words[1])] = int(words[2])
+            mode = words[3] if len(words) > 3 else "both"
+            self.attached[words[0], int(words[1])] = (int(words[2]), mode)
         else:
             sys.exit(f"no line of a made script begins with {keyword}")
 
@@ -62,13 +63,14 @@ class Wired:
     def port_to(self, bridge, other):
         return next(port for neighbour, port, _ in self.neighbours(bridge) if neighbour == other)
 
-    def members(self, isid):
-        return {bridge for (bridge, _), service in self.attached.items() if service == isid}
+    def members(self, isid, but):
+        """The bridges that have a port of a service, of another mode than this."""
+        return {bridge for (bridge, _), (service, mode) in self.attached.items() if service == isid and mode != but}
 
     def group_ports(self, bridge, source, isid):
-        """The ports to those that come behind a bridge on the best paths from a source to the members of a service."""
+        """The ports to those that come behind a bridge on the best paths from a source to the receivers of a service."""
         paths = self.best_paths(source, self.isids[isid])
-        ways = [paths[end] for end in self.members(isid) if end in paths]
+        ways = [paths[end] for end in self.members(isid, "send") if end in paths]
         return sorted({self.port_to(bridge, way[way.index(bridge) + 1]) for way in ways if bridge in way[:-1]})
 
     def unicast_rows(self, bridge):
@@ -79,7 +81,7 @@ class Wired:
 
     def group_rows(self, bridge):
         for isid, vid in self.isids.items():
-            for source in self.members(isid):
+            for source in self.members(isid, "recv"):
                 ports = self.group_ports(bridge, source, isid)
                 digits = self.sources[source]
                 if ports:
@@ -92,10 +94,10 @@ class Wired:
             yield from (f"{word} {vid} {address} {ports}" for vid, address, ports in rows)
 
     def sent_on(self, bridge, port, frame):
-        """A frame leaves a bridge at its other ports of the service, and goes on by the ports of the group row."""
+        """A frame leaves a bridge at its other ports of the service that receive, and goes on by those of the group row."""
         source, isid, data = frame
-        for (at, other), service in sorted(self.attached.items()):
-            if at == bridge and service == isid and other != port:
+        for (at, other), (service, mode) in sorted(self.attached.items()):
+            if at == bridge and service == isid and other != port and mode != "send":
                 yield f"out {bridge} {other} {data}"
         ports = self.group_ports(bridge, source, isid)
         for name, (a, port_a, b, port_b, _) in self.links.items():
@@ -117,7 +119,7 @@ class Wired:
             yield from self.table(f"wiring {words[0]}", words[0])
         elif keyword == "frame":
             bridge, port = words[0], int(words[1])
-            yield from self.sent_on(bridge, port, (bridge, self.attached[bridge, port], words[2]))
+            yield from self.sent_on(bridge, port, (bridge, self.attached[bridge, port][0], words[2]))
         elif keyword == "drain":
             yield from self.drained()
         elif keyword == "down":

@@ -126,7 +126,7 @@ abbrev pub ConfiguredStarts : Type 0
 ConfiguredStarts = (c : BridgeConfig) → IsWhole c → StartsAlone c.last (holding_of (bare c)) (holding_of (configured c))
 
 -- what can come to a bridge: a metric is one of a link; a customer port can be attached so, or is attached; and a
--- customer's frame enters at one that is
+-- customer's frame enters at one that sends
 abbrev pub IsInput : BridgeView → Input → Type 0
 IsInput v second = ⊤
 IsInput v (frame q bytes) = ⊤

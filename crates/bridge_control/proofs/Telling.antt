@@ -8,7 +8,7 @@ use Rattle.flooding.specs.declared.own.Own.{Own}
 use Rattle.bridge_api.specs.Own.{own_of, originated_if_changed}
 use Rattle.bridge_api.specs.View.{BridgeView}
 use Rattle.bridge_api.specs.Customers.{tenant_of, with_learned}
-use Rattle.bridge_api.specs.Services.{IsAttachedPort, CanAttach, with_attached, with_port_forgotten, without_customer_port}
+use Rattle.bridge_api.specs.Services.{IsAttachedPort, IsSendingPort, CanAttach, with_attached, with_port_forgotten, without_customer_port}
 use Rattle.bridge_api.specs.Step.{Input}
 use Rattle.bridge_api.specs.Laws.{HasConfig, IsInput, attached_after}
 use Rattle.bridge_api.proofs.Attached.{config_after, learned_after}
@@ -69,3 +69,6 @@ can_inside blank failed m plane a same unfailed can =
 
 pub attached_inside : (blank failed : Bool) (m : Machine) (plane : Plane) (port : ℕ) → plane_of blank failed m ≡ plane → failed ≡ false → (plane.view.failed ≡ false → IsAttachedPort plane.view port) → IsAttachedPort (view_of m) port
 attached_inside blank failed m plane port same unfailed is = subst (λ (p : Plane). p.view.failed ≡ false → IsAttachedPort p.view port) (sym same) is unfailed
+
+pub sending_inside : (blank failed : Bool) (m : Machine) (plane : Plane) (port : ℕ) → plane_of blank failed m ≡ plane → failed ≡ false → (plane.view.failed ≡ false → IsSendingPort plane.view port) → IsSendingPort (view_of m) port
+sending_inside blank failed m plane port same unfailed is = subst (λ (p : Plane). p.view.failed ≡ false → IsSendingPort p.view port) (sym same) is unfailed

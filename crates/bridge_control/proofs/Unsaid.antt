@@ -1,14 +1,18 @@
--- A customer port beside another of its service: the bridge says the same of itself with it and without it.
-use Rattle.std.proofs.Common.{Option, Some, ◌≡◌, ◌⊎◌, inl, inr, ℕ, zero, suc, ◌+◌, ◌*◌, take, drop, Bool, true, false, List, [], ◌∷◌, ◌++◌, map, refl, sym, ap, ◌∙◌, subst}
-use Rattle.std.specs.Prelude.{◌||◌, ◌&&◌, ◌==◌, Contains}
-use Rattle.std.specs.List.{list_any, list_all, AllByRecursion}
+-- A customer port beside others that do the same in its service: the bridge says the same of itself with it and without
+-- it.
+use Rattle.std.proofs.Common.{Option, Some, ◌≡◌, ◌⊎◌, inl, inr, ℕ, zero, suc, ◌+◌, ◌*◌, take, drop, Bool, true, false, List, [], ◌∷◌, ◌++◌, map, refl, sym, ap, ◌∙◌, subst, arith}
+use Rattle.std.specs.Prelude.{not, ◌||◌, ◌&&◌, ◌==◌}
+use Rattle.std.specs.List.{list_any, list_all}
 use Rattle.std.proofs.lemmas.Bool.{eqb-true}
+use Rattle.spb_types.specs.Service.{sends, receives}
 use Rattle.spb_types.specs.declared.address.SystemId.{SystemId}
 use Rattle.spb_types.specs.declared.graph.Member.{Member}
 use Rattle.spb_types.specs.declared.service.Attachment.{Attachment}
+use Rattle.spb_types.specs.declared.service.Mode.{Mode}
+use Rattle.spb_types.specs.declared.service.Mode.TheVariants.{Both, Send, Recv}
 use Rattle.spb_types.specs.declared.level.TheConstants.{LEVEL_1}
 use Rattle.customer_learning.specs.Known.{Addresses}
-use Rattle.forwarding.specs.Ports.{is_at_other_port, is_in, is_served, without_customer_port}
+use Rattle.forwarding.specs.Ports.{is_at_other_port, is_in, without_customer_port}
 use Rattle.forwarding.specs.Detaching.{after_detach}
 use Rattle.flooding.specs.declared.own.Own.{Own}
 use Rattle.flooding.specs.Own.{own_numbers}
@@ -16,10 +20,10 @@ use Rattle.flooding.specs.Settling.{AreCurrent}
 use Rattle.spb_content.specs.declared.local.Local.{Local}
 use Rattle.spb_content.specs.Fragments.{unless_none, fragment, fragments_from, bodies_saying}
 use Rattle.spb_content.specs.Local.{IsLocal, IsAttached, content_bytes, service_tlvs}
-use Rattle.spb_content.specs.Members.{pair_of, pairs_of, member_for, merged}
-use Rattle.spb_content.proofs.Ascended.{ascends_once}
-use Rattle.spb_content.proofs.Pairs.{service_number, merged_ascends, merged_paired, paired_merged}
-use Rattle.spb_content.proofs.Members.{Has, has_from_contains, contains_from_has, has_left, has_parts, has_map, map_has, has_filter, filter_has}
+use Rattle.spb_content.specs.Members.{merged, HasNumbers}
+use Rattle.spb_content.proofs.Covered.{any_has, IsPaired, IsDone, IsCovered, AreCovered}
+use Rattle.spb_content.proofs.Members.{Has, has_left, has_parts, has_map, map_has, has_filter, filter_has, weaker}
+use Rattle.spb_content.proofs.Merged.{merged_same}
 use Rattle.bridge_api.specs.View.{BridgeView}
 use Rattle.bridge_api.specs.Own.{member_of, local_of, bodies_of, own_of}
 use Rattle.bridge_api.specs.Customers.{with_learned}
@@ -31,7 +35,7 @@ use Rattle.bridge_api.proofs.Changes.{attached_to, with_attached_is}
 use Rattle.bridge_api.proofs.OwnLspSteps.{saying_settles}
 use Rattle.bridge_api.proofs.Saying.{is_local}
 use Rattle.bridge_control.specs.declared.machine.Machine.{Machine}
-use Rattle.bridge_control.specs.Attaching.{is_beside, is_elsewhere, is_covered}
+use Rattle.bridge_control.specs.Attaching.{is_beside, sends_beside, receives_beside, is_done_beside, is_covered}
 use Rattle.bridge_control.specs.Machine.{view_of, IsReady, IsAfter}
 use Rattle.bridge_control.proofs.Owning.{after_same}
 use Rattle.bridge_control.proofs.Telling.{machine_with, forgotten_is}
@@ -42,94 +46,139 @@ both : (a b : Bool) → (a && b) ≡ true → (a ≡ true) × (b ≡ true)
 both true b e = (refl, e)
 both false b e = absurd cc
 
--- an item that passes
-record Passes {A : Type 0} (p : A → Bool) (xs : List A) : Type 0 where
-  item : A
-  has : Has item xs
-  is : p item ≡ true
-
-passes_at : {A : Type 0} (p : A → Bool) (x : A) (xs : List A) (b : Bool) → p x ≡ b → (b || list_any p xs) ≡ true → (list_any p xs ≡ true → Passes p xs) → Passes p (x ∷ xs)
-passes_at p x xs true t e rest = record { item = x; has = inl refl; is = t }
-passes_at p x xs false t e rest = let r = rest e in record { item = r.item; has = inr r.has; is = r.is }
-
-passes : {A : Type 0} (p : A → Bool) (xs : List A) → list_any p xs ≡ true → Passes p xs
-passes p [] e = absurd cc
-passes p (x ∷ xs) e = passes_at p x xs (p x) refl e (passes p xs)
+-- what is done where it is needed
+needed : (b c : Bool) → (not b || c) ≡ true → b ≡ true → c ≡ true
+needed true c e t = e
+needed false c e t = absurd cc
 
 all_pass : {A : Type 0} (p : A → Bool) (x : A) (xs : List A) → list_all p xs ≡ true → Has x xs → p x ≡ true
 all_pass p x [] e h = absurd h
 all_pass p x (y ∷ ys) e (inl i) = ap p i ∙ (both (p y) (list_all p ys) e).0
 all_pass p x (y ∷ ys) e (inr h) = all_pass p x ys (both (p y) (list_all p ys) e).1 h
 
--- ---- services that are served
+-- ---- what ports do in a service
 
--- the service of an attachment is served by one of these
-record IsCovered (s : SystemId) (a : Attachment) (bs : List Attachment) : Type 0 where
+-- one of these does something in the service of an attachment
+record IsDoneBy (does : Mode → Bool) (a : Attachment) (bs : List Attachment) : Type 0 where
   by : Attachment
   has : Has by bs
-  same : member_of s a ≡ member_of s by
+  isid : a.isid ≡ by.isid
+  vid : a.vid ≡ by.vid
+  done : does by.mode ≡ true
 
-same_member : (s : SystemId) (a b : Attachment) → (is_in a.isid b && (b.vid.value == a.vid.value)) ≡ true → member_of s a ≡ member_of s b
-same_member s a b e =
-    let parts = both (is_in a.isid b) (b.vid.value == a.vid.value) e in
-    let isid = sym (eqb-true b.isid.value a.isid.value parts.0) in
-    let vid = sym (eqb-true b.vid.value a.vid.value parts.1) in
-    λ i. record { system = s; isid = record { value = isid i }; vid = record { value = vid i } }
+-- what an attachment does in its service is done there by these
+record AreDoing (bs : List Attachment) (a : Attachment) : Type 0 where
+  sends : sends a.mode ≡ true → IsDoneBy sends a bs
+  receives : receives a.mode ≡ true → IsDoneBy receives a bs
 
-members_within : (s : SystemId) (xs ys : List Attachment) → ((a : Attachment) → Has a xs → IsCovered s a ys) → (m : Member) → Contains (map (member_of s) xs) m → Contains (map (member_of s) ys) m
-members_within s xs ys within m c =
-    let x = map_has (member_of s) m xs (has_from_contains m (map (member_of s) xs) c) in
-    let y = within x.0 x.1 in
-    contains_from_has m (map (member_of s) ys) (subst (λ k. Has k (map (member_of s) ys)) (sym (x.2 ∙ y.same)) (has_map (member_of s) y.by ys y.has))
+itself : (a : Attachment) (bs : List Attachment) → Has a bs → AreDoing bs a
+itself a bs h = record {
+  sends = λ e. record { by = a; has = h; isid = refl; vid = refl; done = e };
+  receives = λ e. record { by = a; has = h; isid = refl; vid = refl; done = e };
+}
 
-itself : (s : SystemId) (a : Attachment) (bs : List Attachment) → Has a bs → IsCovered s a bs
-itself s a bs h = record { by = a; has = h; same = refl }
+-- it is done at another port
+record IsDoneBeside (does : Mode → Bool) (a : Attachment) (bs : List Attachment) : Type 0 where
+  done : IsDoneBy does a bs
+  apart : is_at_other_port a.port done.by ≡ true
 
--- one more of a service that is served
-more_at : (s : SystemId) (a x : Attachment) (xs : List Attachment) → is_served a.isid a.vid xs ≡ true → Has x xs ⊎ Has x (a ∷ []) → IsCovered s x xs
-more_at s a x xs served (inl h) = itself s x xs h
-more_at s a x xs served (inr (inl e)) =
-    let other = passes (λ b. is_in a.isid b && (b.vid.value == a.vid.value)) xs served in
-    record { by = other.item; has = other.has; same = ap (member_of s) e ∙ same_member s a other.item other.is }
-more_at s a x xs served (inr (inr h)) = absurd h
+some_beside : (does : Mode → Bool) (a : Attachment) (bs : List Attachment) → list_any (λ b. is_beside a b && does b.mode) bs ≡ true → IsDoneBeside does a bs
+some_beside does a bs e =
+    let other = any_has (λ b. is_beside a b && does b.mode) bs e in
+    let b : Attachment = other.0 in
+    let parts = both (is_beside a b) (does b.mode) other.2 in
+    let beside = both (is_in a.isid b && (b.vid.value == a.vid.value)) (is_at_other_port a.port b) parts.0 in
+    let same = both (is_in a.isid b) (b.vid.value == a.vid.value) beside.0 in
+    let isid = sym (eqb-true b.isid.value a.isid.value same.0) in
+    let vid = sym (eqb-true b.vid.value a.vid.value same.1) in
+    record {
+      done = record { by = b; has = other.1; isid = λ i. record { value = isid i }; vid = λ i. record { value = vid i }; done = parts.1 };
+      apart = beside.1;
+    }
 
-more_within : (s : SystemId) (a : Attachment) (xs : List Attachment) → is_served a.isid a.vid xs ≡ true → (x : Attachment) → Has x (xs ++ a ∷ []) → IsCovered s x xs
-more_within s a xs served x h = more_at s a x xs served (has_parts x xs (a ∷ []) h)
+record AreDoingBeside (bs : List Attachment) (a : Attachment) : Type 0 where
+  sends : sends a.mode ≡ true → IsDoneBeside sends a bs
+  receives : receives a.mode ≡ true → IsDoneBeside receives a bs
 
-more_beyond : (s : SystemId) (a : Attachment) (xs : List Attachment) → (x : Attachment) → Has x xs → IsCovered s x (xs ++ a ∷ [])
-more_beyond s a xs x h = itself s x (xs ++ a ∷ []) (has_left x xs (a ∷ []) h)
+all_beside : (a : Attachment) (bs : List Attachment) → is_done_beside bs a ≡ true → AreDoingBeside bs a
+all_beside a bs e =
+    let parts = both (not (sends a.mode) || sends_beside bs a) (not (receives a.mode) || receives_beside bs a) e in
+    record {
+      sends = λ t. some_beside sends a bs (needed (sends a.mode) (sends_beside bs a) parts.0 t);
+      receives = λ t. some_beside receives a bs (needed (receives a.mode) (receives_beside bs a) parts.1 t);
+    }
 
--- one less of a service that is served elsewhere
-less_within : (s : SystemId) (port : ℕ) (xs : List Attachment) → (x : Attachment) → Has x (without_customer_port port xs) → IsCovered s x xs
-less_within s port xs x h = itself s x xs (filter_has (is_at_other_port port) x xs h).0
+-- one more, of which all is done beside it
+more_at : (a x : Attachment) (xs : List Attachment) → is_done_beside xs a ≡ true → Has x xs ⊎ Has x (a ∷ []) → AreDoing xs x
+more_at a x xs done (inl h) = itself x xs h
+more_at a x xs done (inr (inl e)) =
+    let beside : AreDoingBeside xs a = all_beside a xs done in
+    subst (AreDoing xs) (sym e) (record { sends = λ t. (beside.sends t).done; receives = λ t. (beside.receives t).done })
+more_at a x xs done (inr (inr h)) = absurd h
 
-less_at : (s : SystemId) (port : ℕ) (xs : List Attachment) (x : Attachment) (b : Bool) → is_at_other_port port x ≡ b → (b || is_elsewhere port xs x) ≡ true → Has x xs → IsCovered s x (without_customer_port port xs)
-less_at s port xs x true t e h = itself s x (without_customer_port port xs) (has_filter (is_at_other_port port) x xs h t)
-less_at s port xs x false t e h =
-    let other = passes (is_beside port x) xs e in
-    let parts = both (is_at_other_port port other.item) (is_in x.isid other.item && (other.item.vid.value == x.vid.value)) other.is in
-    record { by = other.item; has = has_filter (is_at_other_port port) other.item xs other.has parts.0; same = same_member s x other.item parts.1 }
+more_within : (a : Attachment) (xs : List Attachment) → is_done_beside xs a ≡ true → (x : Attachment) → Has x (xs ++ a ∷ []) → AreDoing xs x
+more_within a xs done x h = more_at a x xs done (has_parts x xs (a ∷ []) h)
 
-less_beyond : (s : SystemId) (port : ℕ) (xs : List Attachment) → list_all (is_covered port xs) xs ≡ true → (x : Attachment) → Has x xs → IsCovered s x (without_customer_port port xs)
-less_beyond s port xs all x h = less_at s port xs x (is_at_other_port port x) refl (all_pass (is_covered port xs) x xs all h) h
+more_beyond : (a : Attachment) (xs : List Attachment) → (x : Attachment) → Has x xs → AreDoing (xs ++ a ∷ []) x
+more_beyond a xs x h = itself x (xs ++ a ∷ []) (has_left x xs (a ∷ []) h)
+
+-- one less, of which all is done beside it
+less_within : (port : ℕ) (xs : List Attachment) → (x : Attachment) → Has x (without_customer_port port xs) → AreDoing xs x
+less_within port xs x h = itself x xs (filter_has (is_at_other_port port) x xs h).0
+
+still_done : (does : Mode → Bool) (port : ℕ) (x : Attachment) (xs : List Attachment) → x.port ≡ port → IsDoneBeside does x xs → IsDoneBy does x (without_customer_port port xs)
+still_done does port x xs at beside =
+    let d : IsDoneBy does x xs = beside.done in
+    record {
+      by = d.by;
+      has = has_filter (is_at_other_port port) d.by xs d.has (subst (λ p. is_at_other_port p d.by ≡ true) at beside.apart);
+      isid = d.isid;
+      vid = d.vid;
+      done = d.done;
+    }
+
+is_port : (b : Bool) → not b ≡ false → b ≡ true
+is_port true e = refl
+is_port false e = absurd cc
+
+less_at : (port : ℕ) (xs : List Attachment) (x : Attachment) (b : Bool) → is_at_other_port port x ≡ b → (b || is_done_beside xs x) ≡ true → Has x xs → AreDoing (without_customer_port port xs) x
+less_at port xs x true t e h = itself x (without_customer_port port xs) (has_filter (is_at_other_port port) x xs h t)
+less_at port xs x false t e h =
+    let at : x.port ≡ port = eqb-true x.port port (is_port (x.port == port) t) in
+    let beside : AreDoingBeside xs x = all_beside x xs e in
+    record { sends = λ s. still_done sends port x xs at (beside.sends s); receives = λ r. still_done receives port x xs at (beside.receives r) }
+
+less_beyond : (port : ℕ) (xs : List Attachment) → list_all (is_covered port xs) xs ≡ true → (x : Attachment) → Has x xs → AreDoing (without_customer_port port xs) x
+less_beyond port xs all x h = less_at port xs x (is_at_other_port port x) refl (all_pass (is_covered port xs) x xs all h) h
+
+-- ---- the members are the same
+
+done_member : (does : Mode → Bool) (s : SystemId) (a : Attachment) (bs : List Attachment) → IsDoneBy does a bs → IsPaired (member_of s a) (map (member_of s) bs)
+done_member does s a bs d = record { item = member_of s d.by; has = has_map (member_of s) d.by bs d.has; is = λ i. (d.vid i, d.isid i) }
+
+-- each port sends or receives
+paired_by : (s : SystemId) (a : Attachment) (bs : List Attachment) (mode : Mode) → (sends mode ≡ true → IsDoneBy sends a bs) → (receives mode ≡ true → IsDoneBy receives a bs)
+    → IsPaired (member_of s a) (map (member_of s) bs)
+paired_by s a bs Both sent received = done_member sends s a bs (sent refl)
+paired_by s a bs Send sent received = done_member sends s a bs (sent refl)
+paired_by s a bs Recv sent received = done_member receives s a bs (received refl)
+
+covered_member : (s : SystemId) (a : Attachment) (bs : List Attachment) → AreDoing bs a → IsCovered (member_of s a) (map (member_of s) bs)
+covered_member s a bs does = record {
+  paired = paired_by s a bs a.mode does.sends does.receives;
+  sends = λ e. let d : IsDoneBy sends a bs = does.sends e in record { item = member_of s d.by; has = has_map (member_of s) d.by bs d.has; is = λ i. (d.vid i, d.isid i); done = d.done };
+  takes = λ e. let d : IsDoneBy receives a bs = does.receives e in record { item = member_of s d.by; has = has_map (member_of s) d.by bs d.has; is = λ i. (d.vid i, d.isid i); done = d.done };
+}
+
+members_covered : (s : SystemId) (xs ys : List Attachment) → ((a : Attachment) → Has a xs → AreDoing ys a) → AreCovered (map (member_of s) xs) (map (member_of s) ys)
+members_covered s xs ys within m h =
+    let x = map_has (member_of s) m xs h in
+    subst (λ n. IsCovered n (map (member_of s) ys)) (sym x.2) (covered_member s x.0 ys (within x.0 x.1))
+
+has_numbers : (m : Member) → IsAttached m → HasNumbers m
+has_numbers m at = record { isid = omega (arith, at.isid_high); vid = omega (arith, at.vid_high) }
 
 -- ---- the bridge says the same
-
--- a member of a system is what its pair makes it
-pair_makes : (x : SystemId) (ms : List Member) (m : Member) → Has m (merged x ms) → m ≡ member_for x (pair_of m)
-pair_makes x ms m h = let p = map_has (member_for x) m (pairs_of ms) h in p.2 ∙ ap (λ (k : Member). member_for x (pair_of k)) (sym p.2)
-
-into : (x : SystemId) (ms ns : List Member) → AllByRecursion IsAttached ns → ((m : Member) → Contains ms m → Contains ns m) → (m : Member) → Has m (merged x ms) → Has m (merged x ns)
-into x ms ns each within m h =
-    let p = merged_paired x ms m h in
-    let q = paired_merged x ns each p.item (has_from_contains p.item ns (within p.item (contains_from_has p.item ms p.has))) in
-    let same : q.item ≡ m = pair_makes x ns q.item q.has ∙ (ap (member_for x) (sym (p.is ∙ q.is)) ∙ sym (pair_makes x ms m h)) in
-    subst (λ k. Has k (merged x ns)) same q.has
-
--- the services are the same
-same_services : (x : SystemId) (ms ns : List Member) → AllByRecursion IsAttached ms → AllByRecursion IsAttached ns → ((m : Member) → Contains ms m → Contains ns m) → ((m : Member) → Contains ns m → Contains ms m) → merged x ms ≡ merged x ns
-same_services x ms ns each_ms each_ns within beyond =
-    ascends_once service_number (merged x ms) (merged x ns) (merged_ascends x ms) (merged_ascends x ns) (into x ms ns each_ns within) (into x ns ms each_ms beyond)
 
 same_fragment : (l : Local) (ms ns : List Member) → merged l.config.id.system ms ≡ merged l.config.id.system ns → (k : ℕ) → fragment (record l { attached = ms }) k ≡ fragment (record l { attached = ns }) k
 unfolding fragment
@@ -145,17 +194,19 @@ same_fragments l ms ns same (suc n) k =
     λ i. first i ∷ rest i
 
 same_bodies : (v : BridgeView) (attached : List Attachment) (learned : Addresses) → IsLocal (local_of v) → IsLocal (local_of (attached_to attached v))
-    → ((a : Attachment) → Has a attached → IsCovered v.id.system a v.attached) → ((a : Attachment) → Has a v.attached → IsCovered v.id.system a attached)
+    → ((a : Attachment) → Has a attached → AreDoing v.attached a) → ((a : Attachment) → Has a v.attached → AreDoing attached a)
     → bodies_of (attached_to attached (with_learned learned v)) ≡ bodies_of v
 unfolding bodies_of
 same_bodies v attached learned before after within beyond =
     let s : SystemId = v.id.system in
     let services : merged s (map (member_of s) attached) ≡ merged s (map (member_of s) v.attached) =
-    same_services s (map (member_of s) attached) (map (member_of s) v.attached) after.attached before.attached (members_within s attached v.attached within) (members_within s v.attached attached beyond) in
+    merged_same s (map (member_of s) attached) (map (member_of s) v.attached)
+    (weaker IsAttached HasNumbers (map (member_of s) attached) has_numbers after.attached) (weaker IsAttached HasNumbers (map (member_of s) v.attached) has_numbers before.attached)
+    (members_covered s attached v.attached within) (members_covered s v.attached attached beyond) in
     ap (λ (fragments : List (Option (List ℕ))). bodies_saying LEVEL_1 fragments) (same_fragments (local_of v) (map (member_of s) attached) (map (member_of s) v.attached) services own_numbers 0)
 
 says_still : (m n : Machine) (attached : List Attachment) (learned other : Addresses) → IsReady m → HasConfig (attached_to attached (with_learned other (view_of m))) → n ≡ machine_with m attached learned
-    → ((a : Attachment) → Has a attached → IsCovered m.id.system a m.tenant.attached) → ((a : Attachment) → Has a m.tenant.attached → IsCovered m.id.system a attached)
+    → ((a : Attachment) → Has a attached → AreDoing m.tenant.attached a) → ((a : Attachment) → Has a m.tenant.attached → AreDoing attached a)
     → IsAfter (with_attached attached (with_learned learned (view_of m))) n
 says_still m n attached learned other ready config is within beyond =
     let v : BridgeView = view_of m in
@@ -172,19 +223,19 @@ says_still m n attached learned other ready config is within beyond =
     subst (λ (k : Machine). IsAfter (with_attached attached (with_learned learned v)) k) (sym is) whole
 
 still_after : (m n : Machine) (input : Input) (learned : Addresses) → IsReady m → IsInput (view_of m) input → n ≡ machine_with m (attached_after input m.tenant.attached) learned
-    → ((a : Attachment) → Has a (attached_after input m.tenant.attached) → IsCovered m.id.system a m.tenant.attached) → ((a : Attachment) → Has a m.tenant.attached → IsCovered m.id.system a (attached_after input m.tenant.attached))
+    → ((a : Attachment) → Has a (attached_after input m.tenant.attached) → AreDoing m.tenant.attached a) → ((a : Attachment) → Has a m.tenant.attached → AreDoing (attached_after input m.tenant.attached) a)
     → IsAfter (with_attached (attached_after input m.tenant.attached) (with_learned learned (view_of m))) n
 still_after m n input learned ready is same within beyond =
     says_still m n (attached_after input m.tenant.attached) learned (learned_after input (view_of m)) ready (config_after input (view_of m) is ready.sound.config) same within beyond
 
--- a port was attached to a service that another is attached to
-pub attached_unsaid : (m n : Machine) (a : Attachment) → IsReady m → IsInput (view_of m) (attach a) → is_served a.isid a.vid m.tenant.attached ≡ true
+-- a port was attached to a service in which others do what it does
+pub attached_unsaid : (m n : Machine) (a : Attachment) → IsReady m → IsInput (view_of m) (attach a) → is_done_beside m.tenant.attached a ≡ true
     → n ≡ machine_with m (m.tenant.attached ++ a ∷ []) m.tenant.learned → IsAfter (with_attached (m.tenant.attached ++ a ∷ []) (view_of m)) n
-attached_unsaid m n a ready can served is =
+attached_unsaid m n a ready can done is =
     still_after m n (attach a) m.tenant.learned ready can is
-    (more_within m.id.system a m.tenant.attached served) (more_beyond m.id.system a m.tenant.attached)
+    (more_within a m.tenant.attached done) (more_beyond a m.tenant.attached)
 
--- a port was detached from a service that another is attached to
+-- a port was detached from a service in which others do what it did
 pub detached_unsaid : (m n : Machine) (port : ℕ) → IsReady m → IsInput (view_of m) (detach port) → list_all (is_covered port m.tenant.attached) m.tenant.attached ≡ true
     → n ≡ record m { tenant = after_detach m.tenant port } → IsAfter (with_attached (without_customer_port port m.tenant.attached) (with_port_forgotten port (view_of m))) n
 detached_unsaid m n port ready attached covered is =
@@ -192,4 +243,4 @@ detached_unsaid m n port ready attached covered is =
     let learned : Addresses = (after_detach m.tenant port).learned in
     after_same _ _ n (ap (with_attached left) (forgotten_is m port ready.current.ports.me))
     (still_after m n (detach port) learned ready attached is
-    (less_within m.id.system port m.tenant.attached) (less_beyond m.id.system port m.tenant.attached covered))
+    (less_within port m.tenant.attached) (less_beyond port m.tenant.attached covered))

@@ -1,6 +1,7 @@
 -- A machine to which something else is attached than its own LSPs say.
-use Rattle.std.specs.Prelude.{◌≡◌, ℕ, List, Bool, ◌&&◌, ◌||◌, ◌==◌}
+use Rattle.std.specs.Prelude.{◌≡◌, ℕ, List, Bool, not, ◌&&◌, ◌||◌, ◌==◌}
 use Rattle.std.specs.List.{list_any}
+use Rattle.spb_types.specs.Service.{sends, receives}
 use Rattle.spb_types.specs.declared.service.Attachment.{Attachment}
 use Rattle.forwarding.specs.Ports.{is_at_other_port, is_in}
 use Rattle.spb_content.specs.Local.{IsLocal}
@@ -15,13 +16,23 @@ pub record CanTell (m : Machine) : Type 0 where
   pub local : IsLocal (local_of (view_of m))
   pub ports : FollowsPorts m
 
--- whether something is attached to the service of an attachment, at another port than this
-abbrev pub is_beside : ℕ → Attachment → Attachment → Bool
-is_beside port a b = is_at_other_port port b && (is_in a.isid b && (b.vid.value == a.vid.value))
+-- whether something is attached to the service of an attachment, at another port
+abbrev pub is_beside : Attachment → Attachment → Bool
+is_beside a b = (is_in a.isid b && (b.vid.value == a.vid.value)) && is_at_other_port a.port b
 
-abbrev pub is_elsewhere : ℕ → List Attachment → Attachment → Bool
-is_elsewhere port attached a = list_any (is_beside port a) attached
+-- whether another port sends to the service of an attachment
+abbrev pub sends_beside : List Attachment → Attachment → Bool
+sends_beside attached a = list_any (λ b. is_beside a b && sends b.mode) attached
 
--- whether an attachment is at another port than this, or another port is attached to its service
+-- whether another port receives from it
+abbrev pub receives_beside : List Attachment → Attachment → Bool
+receives_beside attached a = list_any (λ b. is_beside a b && receives b.mode) attached
+
+-- whether other ports do in the service of an attachment what it does there
+abbrev pub is_done_beside : List Attachment → Attachment → Bool
+is_done_beside attached a =
+    (not (sends a.mode) || sends_beside attached a) && (not (receives a.mode) || receives_beside attached a)
+
+-- whether an attachment is at another port than this, or other ports do in its service what it does
 abbrev pub is_covered : ℕ → List Attachment → Attachment → Bool
-is_covered port attached a = is_at_other_port port a || is_elsewhere port attached a
+is_covered port attached a = is_at_other_port port a || is_done_beside attached a

@@ -1,27 +1,24 @@
 //! Attaching a customer port to a service, and detaching it.
 ghost use Rattle.std.specs.Prelude.{◌≡◌, OnOk};
-ghost use Rattle.std.specs.List.{list_all, list_any};
+ghost use Rattle.std.specs.List.{list_all};
 ghost use Rattle.bridge_api.specs.Own as api;
 ghost use Rattle.bridge_api.specs.Services as services;
 ghost use Rattle.bridge_control.specs.Machine.{view_of, IsReady, IsAfter};
-ghost use Rattle.bridge_control.specs.Attaching.{CanTell, is_beside, is_elsewhere, is_covered};
+ghost use Rattle.bridge_control.specs.Attaching.{CanTell, is_beside, sends_beside, receives_beside, is_done_beside, is_covered};
 
 use crate::machine::Machine;
-use forwarding::{detach, is_served};
+use forwarding::detach;
 use spb_types::{Attachment, NoMemory};
 
 impl Machine {
-    /// Attaches a customer port to a service. Where another port is attached to it, the bridge says the same as before.
+    /// Attaches a customer port to a service. Where other ports send to it and receive from it as this one does, the
+    /// bridge says the same as before.
     pub(crate) fn attach(&mut self, attachment: Attachment) -> Result<(), NoMemory>
         requires ready { IsReady self.old }
         requires can { services.CanAttach (view_of self.old) attachment }
         ensures { OnOk result (IsAfter (services.with_attachment attachment (view_of self.old)) self.new) }
     {
-        let is_said = is_served(
-            attachment.isid,
-            attachment.vid,
-            self.tenant.attached.as_slice(),
-        );
+        let is_said = is_done_beside(&attachment, self.tenant.attached.as_slice());
         self.tenant.attached.push(attachment)?;
         if is_said {
             return Ok(());
@@ -29,8 +26,8 @@ impl Machine {
         self.tell()
     }
 
-    /// Detaches a customer port, and forgets what was learned there. Where another port is attached to its service, the
-    /// bridge says the same as before.
+    /// Detaches a customer port, and forgets what was learned there. Where other ports send to its service and receive
+    /// from it as this one does, the bridge says the same as before.
     pub(crate) fn detach(&mut self, port: u16) -> Result<(), NoMemory>
         requires ready { IsReady self.old }
         requires attached { services.IsAttachedPort (view_of self.old) port }
@@ -54,28 +51,45 @@ impl Machine {
     }
 }
 
-/// Whether this is attached to the service of another attachment, at another port than this.
-fn is_beside(b: &Attachment, port: u16, a: &Attachment) -> bool
-    ensures { result ≡ is_beside port a.now b.now }
+/// Whether this is attached to the service of another attachment, at another port.
+fn is_beside(b: &Attachment, a: &Attachment) -> bool
+    ensures { result ≡ is_beside a.now b.now }
 {
-    b.port != port && b.isid.value == a.isid.value && b.vid.value == a.vid.value
+    b.isid.value == a.isid.value && b.vid.value == a.vid.value && b.port != a.port
 }
 
-/// Whether another port than this is attached to the service of an attachment.
-fn is_elsewhere(a: &Attachment, port: u16, attached: &[Attachment]) -> bool
-    ensures { result ≡ is_elsewhere port attached.now a.now }
+/// Whether another port sends to the service of an attachment.
+fn sends_beside(a: &Attachment, attached: &[Attachment]) -> bool
+    ensures { result ≡ sends_beside attached.now a.now }
 {
-    attached.iter().any(|b| is_beside(b, port, a))
+    attached.iter().any(|b| is_beside(b, a) && b.mode.sends())
 }
 
-/// Whether an attachment is at another port than this, or another port is attached to its service.
+/// Whether another port receives from the service of an attachment.
+fn receives_beside(a: &Attachment, attached: &[Attachment]) -> bool
+    ensures { result ≡ receives_beside attached.now a.now }
+{
+    attached
+        .iter()
+        .any(|b| is_beside(b, a) && b.mode.receives())
+}
+
+/// Whether other ports do in the service of an attachment what this does there.
+fn is_done_beside(a: &Attachment, attached: &[Attachment]) -> bool
+    ensures { result ≡ is_done_beside attached.now a.now }
+{
+    (!a.mode.sends() || sends_beside(a, attached))
+        && (!a.mode.receives() || receives_beside(a, attached))
+}
+
+/// Whether an attachment is at another port than this, or other ports do in its service what it does.
 fn is_covered(a: &Attachment, port: u16, attached: &[Attachment]) -> bool
     ensures { result ≡ is_covered port attached.now a.now }
 {
-    a.port != port || is_elsewhere(a, port, attached)
+    a.port != port || is_done_beside(a, attached)
 }
 
-/// Whether other ports are attached to each service that a customer port is attached to.
+/// Whether other ports do what a customer port does in each service that it is attached to.
 fn are_covered(port: u16, attached: &[Attachment]) -> bool
     ensures { result ≡ list_all (is_covered port attached.now) attached.now }
 {

@@ -10,7 +10,7 @@ ghost use Rattle.bridge_api.specs.Drops.{count_of};
 ghost use Rattle.bridge_api.specs.View.{IsPort, has_carrier_at, is_csnp_due_at, adjacency_at, has_flags, entry_at};
 ghost use Rattle.bridge_api.specs.Config.{IsWhole, IsMetric, configured};
 ghost use Rattle.bridge_api.specs.Hearing.{after_receive, with_carrier, with_metric};
-ghost use Rattle.bridge_api.specs.Services.{IsAttachedPort, CanAttach, attachment_of, with_attachment, without_attachment};
+ghost use Rattle.bridge_api.specs.Services.{IsAttachedPort, IsSendingPort, CanAttach, attachment_of, with_attachment, without_attachment};
 ghost use Rattle.bridge_api.specs.Ticking.{after_tick, sent_in_tick};
 ghost use Rattle.bridge_api.specs.Customers.{IsCustomerFrame, after_entry, moved_by_entry, moved_by_receive};
 ghost use Rattle.bridge_api.specs.Step.{with_wire, with_moved, Gains, GainsMoved};
@@ -27,7 +27,7 @@ use adjacency::Adjacency;
 use bridge_api::{BridgeConfig, DropReason, Outbox};
 use lsdb::Held;
 use spb_types::{
-    Attachment, BridgeId, Graph, Isid, Mac, NoMemory, Path, PortSet, SystemId, Tables, Vid,
+    Attachment, BridgeId, Graph, Isid, Mac, Mode, NoMemory, Path, PortSet, SystemId, Tables, Vid,
     VidPlan, group_of, unicast_of,
 };
 use std::alloc::Global;
@@ -193,10 +193,11 @@ impl ControlPlane {
         ended
     }
 
-    /// A customer's frame enters at a customer port that is attached, and is sent on by the tables of the bridge.
+    /// A customer's frame enters at a customer port that is attached and sends, and is sent on by the tables of the
+    /// bridge.
     pub fn customer(&mut self, port: u16, frame: &[u8], outbox: &mut Outbox) -> Result<(), NoMemory>
         requires made { self.old.blank ≡ false }
-        requires attached { self.old.view.failed ≡ false → IsAttachedPort self.old.view port }
+        requires sending { self.old.view.failed ≡ false → IsSendingPort self.old.view port }
         requires frame { IsCustomerFrame frame.now }
         ensures view { OnOk result (self.new.view ≡ after_entry port frame.now self.old.view) }
         ensures sent { OnOk result (outbox.new ≡ with_moved (moved_by_entry port frame.now self.old.view) outbox.old) }
@@ -262,10 +263,10 @@ impl ControlPlane {
     }
 
     /// Attaches a customer port to a service, an I-SID in a base VID (IEEE 802.1ah, 25.10).
-    pub fn attach(&mut self, port: u16, isid: Isid, vid: Vid) -> Result<(), NoMemory>
+    pub fn attach(&mut self, port: u16, isid: Isid, vid: Vid, mode: Mode) -> Result<(), NoMemory>
         requires made { self.old.blank ≡ false }
-        requires can { self.old.view.failed ≡ false → CanAttach self.old.view (attachment_of port isid vid) }
-        ensures view { OnOk result (self.new.view ≡ with_attachment (attachment_of port isid vid) self.old.view) }
+        requires can { self.old.view.failed ≡ false → CanAttach self.old.view (attachment_of port isid vid mode) }
+        ensures view { OnOk result (self.new.view ≡ with_attachment (attachment_of port isid vid mode) self.old.view) }
         ensures memory { OnErr result (self.new.view.failed ≡ true) }
         ensures failed { self.old.view.failed ≡ true → IsErr result × (self.new.view ≡ self.old.view) }
         ensures still_made { self.new.blank ≡ false }
@@ -277,7 +278,12 @@ impl ControlPlane {
             self.machine.id.system,
         );
         self.tables = None;
-        let ended = self.machine.attach(Attachment { port, isid, vid });
+        let ended = self.machine.attach(Attachment {
+            port,
+            isid,
+            vid,
+            mode,
+        });
         self.failed = ended.is_err();
         ended
     }

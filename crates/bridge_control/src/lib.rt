@@ -30,11 +30,12 @@
 //!
 //! - The bodies of the own LSPs are kept. They are made anew, in time and memory of order p + b and for sorting what is
 //!   attached, where a port comes Up or leaves Up, where any neighbour is lost, where the metric of an Up port is set,
-//!   even to what it was, and where the first customer port is attached to a service or the last one detached; no other
-//!   call makes them. Attaching and detaching look for another port of the service, in time of what is attached. A call
-//!   that made the bodies anew compares them with those that are held: a binary search for each of the 16 own numbers,
-//!   and b bytes. Originating takes time and memory of the bytes of the LSPs that are originated. What is heard in LSPs
-//!   and sequence numbers PDUs makes no such comparison.
+//!   even to what it was, and where a customer port is attached or detached that sends or receives in its service as no
+//!   other port does; no other call makes them. Attaching and detaching look for another port of the service that
+//!   sends, and for one that receives, in time of what is attached. A call that made the bodies anew compares them with
+//!   those that are held: a binary search for each of the 16 own numbers, and b bytes. Originating takes time and memory
+//!   of the bytes of the LSPs that are originated. What is heard in LSPs and sequence numbers PDUs makes no such
+//!   comparison.
 //! - The hello of each port is kept as a frame, and so is the set of the Up ports. A hello is made anew where the state,
 //!   the neighbour or its circuit changes at its port, in constant time and with memory for a few short vectors; the set
 //!   then goes over the ports once. Where a neighbour is lost in a second, the hellos of all ports are made anew.

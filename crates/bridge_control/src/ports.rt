@@ -124,7 +124,7 @@ fn neighbour_at(number: u16, port: &BridgePort) -> Neighbour
     }
 }
 
-/// The services of which attached customer ports make a system a member.
+/// The members that attached customer ports make a system.
 pub(crate) fn attached_members(
     alloc: Global,
     system: SystemId,
@@ -146,6 +146,8 @@ fn member_of(system: SystemId, a: &Attachment) -> Member
         system,
         isid: a.isid,
         vid: a.vid,
+        transmit: a.mode.sends(),
+        receive: a.mode.receives(),
     }
 }
 

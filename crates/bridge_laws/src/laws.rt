@@ -88,8 +88,9 @@ pub fn seconds_serve_neighbours()
 /// number 0 is among them. A sound one reads of itself what it has to say, unless its sequence numbers are spent, and
 /// each neighbour at a port of its own. Of another sound one whose numbers aren't spent it reads what that one has to
 /// say, where it holds the same of its system. It says each neighbour at a port that is Up, with the metric there, and
-/// no other; and that it is a member of each service to which a customer port is attached, in the VID of the port, and
-/// of no other.
+/// no other. What a sound one says is read so: it is a member of each service to which a customer port is attached, in
+/// the VID of the port, and of no other, once; and it transmits where one of these ports sends, and receives where one
+/// does.
 pub fn graphs_are_read_from_what_is_held()
     ensures held { ReadsWhatIsHeld }
     ensures once { ReadsEachOnce }

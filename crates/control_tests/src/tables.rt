@@ -21,16 +21,21 @@ macro_rules! plan {
     };
 }
 
-/// A member of the service 100, or of another, in VID 10.
+/// A member of the service 100, or of another, in VID 10, that sends and receives, or does what is said.
 macro_rules! member {
     ($last:expr) => {
         member!($last, 100)
     };
     ($last:expr, $isid:expr) => {
+        member!($last, $isid, true, true)
+    };
+    ($last:expr, $isid:expr, $transmit:expr, $receive:expr) => {
         Member {
             system: system!($last),
             isid: Isid { value: $isid },
             vid: Vid { value: 10 },
+            transmit: $transmit,
+            receive: $receive,
         }
     };
 }
@@ -262,4 +267,27 @@ fn sources_with_one_address_share_a_row(rt: HostRuntime) {
     let graph = line(&rt, rt.alloc());
     let tables = tables_in_10(&rt, rt.alloc(), &graph, system!(2));
     check_groups(&rt, &tables, &[(1, 0b11), (2, 0b11)]);
+}
+
+const ONE_WAY_MEMBERS: [Member; 3] = [
+    member!(1, 100, true, false),
+    member!(2),
+    member!(3, 100, false, true),
+];
+
+/// The same ring, of which 1 only sends, 2 sends and receives, and 3 only receives.
+fn one_way_ring(rt: &impl Abort, alloc: Global) -> Graph
+    ensures two { IsValidFor result (record { mac = record { bytes = 2 ∷ 0 ∷ 0 ∷ 0 ∷ 0 ∷ 2 ∷ [] } }) }
+    ensures three { IsValidFor result (record { mac = record { bytes = 2 ∷ 0 ∷ 0 ∷ 0 ∷ 0 ∷ 3 ∷ [] } }) }
+{
+    graph_of(rt, alloc, &RING_BRIDGES, &RING_EDGES, &ONE_WAY_MEMBERS)
+}
+
+#[test]
+fn group_rows_lead_from_senders_to_receivers(rt: HostRuntime) {
+    let graph = one_way_ring(&rt, rt.alloc());
+    let two = tables_in_10(&rt, rt.alloc(), &graph, system!(2));
+    check_groups(&rt, &two, &[(1, 0b01), (2, 0b01)]);
+    let three = tables_in_10(&rt, rt.alloc(), &graph, system!(3));
+    check_groups(&rt, &three, &[]);
 }

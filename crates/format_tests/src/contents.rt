@@ -145,14 +145,25 @@ fn attached(isid: u32, vid: u16) -> Member
     ensures isid { result.isid.value ≡ isid }
     ensures vid { result.vid.value ≡ vid }
 {
+    doing(isid, vid, true, true)
+}
+
+/// The same, where it only sends or only receives.
+fn doing(isid: u32, vid: u16, transmit: bool, receive: bool) -> Member
+    ensures isid { result.isid.value ≡ isid }
+    ensures vid { result.vid.value ≡ vid }
+{
     Member {
         system: system(1),
         isid: Isid { value: isid },
         vid: Vid { value: vid },
+        transmit,
+        receive,
     }
 }
 
-/// Bridge 1 with two VIDs, two neighbours and three services, of which one is attached at two ports.
+/// Bridge 1 with two VIDs, two neighbours and three services: it sends to one, receives from another, and does both in
+/// the third, where it has a port for each.
 fn serving(rt: &impl Abort, alloc: Global) -> Local
     ensures { IsLocal result }
 {
@@ -168,10 +179,10 @@ fn serving(rt: &impl Abort, alloc: Global) -> Local
     ];
     let neighbours = [entry(2, 10, 1), entry(3, 0x01_2345, 3)];
     let ports = [
-        attached(300, 20),
-        attached(200, 10),
-        attached(100, 10),
-        attached(200, 10),
+        doing(300, 20, true, false),
+        doing(200, 10, false, true),
+        doing(100, 10, false, true),
+        doing(200, 10, true, false),
     ];
     Local {
         config: BridgeConfigFacts {
@@ -188,14 +199,14 @@ fn serving(rt: &impl Abort, alloc: Global) -> Local
 }
 
 /// Its TLVs, made by hand: a TLV 22 with two entries of 19 bytes, the SPB-Inst with the trees of the VIDs 10 and 20,
-/// and the services, which are the I-SIDs 100 and 200 in VID 10, and 300 in VID 20.
+/// and the services, which are the I-SIDs 100 with R and 200 with both in VID 10, and 300 with T in VID 20.
 const SERVING: &str = "01 04 03 49 00 01 81 01 c1
     16 26 02 00 00 00 00 02 00 00 00 0a 08 1d 06 00 00 0a 01 00 01
           02 00 00 00 00 03 00 01 23 45 08 1d 06 01 23 45 01 00 03
     90 27 00 00 01 23 00 00 00 00 00 00 00 00 00 00 00 00 80 00 00 00 00 01 02
           40 00 80 c2 01 00 a0 00 40 00 80 c2 02 01 40 00
-    90 14 00 00 03 10 02 00 00 00 00 01 00 0a c0 00 00 64 c0 00 00 c8
-    90 10 00 00 03 0c 02 00 00 00 00 01 00 14 c0 00 01 2c";
+    90 14 00 00 03 10 02 00 00 00 00 01 00 0a 40 00 00 64 c0 00 00 c8
+    90 10 00 00 03 0c 02 00 00 00 00 01 00 14 80 00 01 2c";
 
 #[test]
 fn vids_and_services_are_written_ascending(rt: HostRuntime) {
@@ -478,6 +489,29 @@ fn members_send_and_take_at_their_own_mac(rt: HostRuntime) {
         service(1, 103, true, true),
     ];
     let graph = graph(&rt, rt.alloc(), 1, [&[], &[], &[]], &services);
-    let members = [attached(103, 10)];
+    let members = [
+        doing(100, 10, true, false),
+        doing(101, 10, false, true),
+        attached(103, 10),
+    ];
+    are_equal(&rt, &graph.members.as_slice(), &members.as_slice());
+}
+
+#[test]
+fn services_of_one_number_make_one_member(rt: HostRuntime) {
+    let services = [
+        service(1, 103, true, false),
+        service(1, 100, true, false),
+        service(1, 102, false, false),
+        service(1, 101, false, true),
+        service(1, 100, false, true),
+        service(1, 103, true, false),
+    ];
+    let graph = graph(&rt, rt.alloc(), 1, [&[], &[], &[]], &services);
+    let members = [
+        attached(100, 10),
+        doing(101, 10, false, true),
+        doing(103, 10, true, false),
+    ];
     are_equal(&rt, &graph.members.as_slice(), &members.as_slice());
 }

@@ -1,6 +1,6 @@
 //! The tests of the crates that make bytes, texts and values of one another: `spb_types`, `spb_outside`, `isis_pdu`,
 //! `spb_tlvs`, `itag_frames`, `frame_capture`, `spb_content`, `scenario`, `scenario_maker`, `adjacency` and `report`. A
-//! module tests one crate, and a second one tests the cutter of `scenario`.
+//! module tests one crate, and two more test the cutter and the extras of `scenario`.
 //!
 //! Nothing else stands here, and nothing stands on this crate. A crate with tests is proved twice, with and without
 //! them; so those of the lower crates, which see them from outside, stand above them.
@@ -14,6 +14,8 @@ mod captures;
 mod contents;
 #[cfg(test)]
 mod cutting;
+#[cfg(test)]
+mod extras;
 #[cfg(test)]
 mod fixtures;
 #[cfg(test)]

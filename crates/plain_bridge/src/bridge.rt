@@ -5,7 +5,7 @@ use adjacency::Adjacency;
 use bridge_api::{Bridge, BridgeConfig, DropReason, Kind, Outbox};
 use bridge_control::{ControlPlane, SharedReading};
 use lsdb::Held;
-use spb_types::{Isid, Mac, NoMemory, Path, PortSet, SystemId, Tables, Vid};
+use spb_types::{Isid, Mac, Mode, NoMemory, Path, PortSet, SystemId, Tables, Vid};
 use std::alloc::Global;
 use std::marker::Model;
 
@@ -135,8 +135,8 @@ impl Bridge for PlainBridge {
         self.control.set_metric(port, metric)
     }
 
-    fn attach(&mut self, port: u16, isid: Isid, vid: Vid) -> Result<(), NoMemory> {
-        self.control.attach(port, isid, vid)
+    fn attach(&mut self, port: u16, isid: Isid, vid: Vid, mode: Mode) -> Result<(), NoMemory> {
+        self.control.attach(port, isid, vid, mode)
     }
 
     fn detach(&mut self, port: u16) -> Result<(), NoMemory> {

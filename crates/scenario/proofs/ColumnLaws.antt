@@ -5,13 +5,17 @@ use Rattle.spb_types.specs.declared.link.Side.TheVariants.{A}
 use Rattle.spb_types.specs.declared.link.Dir.TheVariants.{Ab}
 use Rattle.scenario.specs.declared.command.Command.{Command}
 use Rattle.spb_types.specs.declared.service.Mode.TheVariants.{Both}
+use Rattle.spb_types.specs.declared.entry_word.EntryWord.TheVariants.{Start}
+use Rattle.scenario.specs.declared.extra.ExtraKeyword.TheVariants.{Proof}
+use Rattle.scenario.specs.declared.extra.Change.TheVariants.{Up}
 use Rattle.scenario.specs.declared.keyword.Keyword.{Keyword}
 use Rattle.scenario.specs.declared.keyword.Keyword.TheVariants.{State}
 use Rattle.scenario.specs.Words.{is_blank, Word, words_in, rest_from, next, next_more, at_end, meant}
 use Rattle.scenario.specs.WordForms.{decoded, hexadecimal}
 use Rattle.scenario.specs.Keywords.{text_of, keyword}
-use Rattle.scenario.specs.Grammar.{Kind, a_name, a_number, a_system, a_source, a_frame, a_dir, a_side, a_mode, Value, meaning, Form, gives, takes, may_take, read, form_of, is_comment, some, unless_blank, line_of, ◌then◌}
+use Rattle.scenario.specs.Grammar.{Kind, a_name, a_number, a_system, a_source, a_frame, a_dir, a_side, a_mode, an_extra, a_change, an_entry, Value, meaning, Form, gives, takes, may_take, read, form_of, is_comment, some, unless_blank, line_of, ◌then◌}
 use Rattle.scenario.specs.Spelling.{SpellsValue, SpellsForm, SpellsWords, CanGoOn, bytes_of, Misfits, Misses, IsRefusedAt, too_long, misfits, misses}
+use Rattle.scenario.specs.Extras.{GoesOn, FormMisfits, FormMisses}
 use Rattle.scenario.proofs.Values.{spells-meaning, meaning-spelled}
 use Rattle.scenario.proofs.FormLaws.{rest, more-read}
 use Rattle.scenario.proofs.LineLaws.{keyword-text, text-keyword}
@@ -27,10 +31,9 @@ example a_frame = (codes "00", decoded (codes "00"), (omega arith, refl, refl, r
 example a_dir = (codes "ab", Ab, refl)
 example a_side = (codes "a", A, refl)
 example a_mode = (codes "both", Both, refl)
-
--- some words more make a command of a form of these
-abbrev GoesOn : {A : Type 0} → Form A → List (List ℕ) → Type 0
-GoesOn {A} f words = (more : List (List ℕ)) × (command : A) × SpellsForm f command (words ++ more)
+example an_extra = (codes "proof", Proof, refl)
+example a_change = (codes "up", Up, refl)
+example an_entry = (codes "-", Start, refl)
 
 -- each form has a command
 any-command : {A : Type 0} (f : Form A) → GoesOn f []
@@ -55,19 +58,6 @@ went-on k more value word words e h =
     (h.0, h.1, subst (λ (v : Value k). SpellsForm (more v) h.1 (words ++ h.0)) same h.2.2)
 
 -- where a form's words go wrong
-pub record FormMisfits {A : Type 0} (f : Form A) (words : List Word) (column : ℕ) : Type 0 where
-  pub before : List Word
-  pub word : Word
-  pub after : List Word
-  pub words_are : words ≡ before ++ (word ∷ after)
-  pub column_is : column ≡ word.column
-  pub fit : GoesOn f (bytes_of before)
-  pub misfit : GoesOn f (bytes_of before ++ (word.bytes ∷ [])) → ⊥
-
-pub record FormMisses {A : Type 0} (f : Form A) (words : List Word) : Type 0 where
-  pub fit : GoesOn f (bytes_of words)
-  pub missing : (command : A) → SpellsForm f command (bytes_of words) → ⊥
-
 abbrev pub GoesWrong : {A : Type 0} → Form A → List Word → ℕ → ℕ → Type 0
 GoesWrong f words end column = FormMisfits f words column ⊎ (FormMisses f words × (column ≡ end))
 
@@ -233,7 +223,7 @@ line-wrong word words end column None e h =
 line-wrong word words end column (Some k) e h =
     behind-wrong k word words end column (keyword-text word.bytes k e) (refused-words (form_of k) words end column h)
 
-some-Err : {A : Type 0} (r : Result A ℕ) (column : ℕ) → some r ≡ Err column → r ≡ Err column
+pub some-Err : {A : Type 0} (r : Result A ℕ) (column : ℕ) → some r ≡ Err column → r ≡ Err column
 some-Err (Ok value) column h = cc
 some-Err (Err other) column h = cc
 

@@ -2,9 +2,11 @@ pub mod Splitting
 pub mod Digits
 pub mod Values
 pub mod FormLaws
+pub mod EntryLaws
 pub mod WordLaws
 pub mod LineLaws
 pub mod ColumnLaws
+pub mod ExtraLaws
 pub mod Rows
 pub mod Octets
 pub mod HexText

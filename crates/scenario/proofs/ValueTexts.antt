@@ -1,5 +1,5 @@
 -- The text that is printed for a value spells it, and no text that spells it is shorter.
-use Rattle.std.proofs.Common.{◌≡◌, ℕ, ◌+◌, ◌*◌, ◌/◌, ◌%◌, ◌^◌, ◌<◌, ◌≤◌, ◌==◌, ◌-◌, ◌&&◌, nat_le, fold, List, [], ◌∷◌, length, Bool, true, false, not, Some, Ok, decimal, unwrap_or, refl, sym, ap, ◌∙◌, subst, inl, inr, arith, rules}
+use Rattle.std.proofs.Common.{codes, ◌≡◌, ℕ, ◌+◌, ◌*◌, ◌/◌, ◌%◌, ◌^◌, ◌<◌, ◌≤◌, ◌==◌, ◌-◌, ◌&&◌, nat_le, fold, List, [], ◌∷◌, length, Bool, true, false, not, Some, Ok, decimal, unwrap_or, refl, sym, ap, ◌∙◌, subst, inl, inr, arith, rules}
 use Rattle.std.specs.List.{list_all}
 use Rattle.std.proofs.Math.Nat.{pow-le-pow_right}
 use Rattle.std.proofs.lemmas.Bool.{cases_Bool, and_parts, eqb-true}
@@ -13,11 +13,22 @@ use Rattle.spb_types.specs.declared.service.SourceId.{SourceId}
 use Rattle.spb_types.specs.declared.link.Side.TheVariants.{A, B}
 use Rattle.spb_types.specs.declared.link.Dir.TheVariants.{Ab, Ba}
 use Rattle.spb_types.specs.declared.service.Mode.TheVariants.{Both, Send, Recv}
+use Rattle.spb_types.specs.declared.entry_word.EntryWord.{EntryWord}
+use Rattle.spb_types.specs.declared.entry_word.EntryWord.TheVariants.{Start, Before, Unreached}
+use Rattle.scenario.specs.declared.extra.ExtraKeyword.TheVariants.{WhatIf, Proof, Check}
+use Rattle.scenario.specs.declared.extra.Change.TheVariants.{Down, Up, Metric}
+use Rattle.scenario.specs.Keywords.{extra_text, change_text}
 use Rattle.scenario.specs.Words.{is_blank}
 use Rattle.scenario.specs.WordForms as forms
-use Rattle.scenario.specs.Grammar.{Kind, a_name, a_number, a_system, a_source, a_frame, a_dir, a_side, a_mode, Value}
+use Rattle.scenario.specs.Grammar.{Kind, a_name, a_number, a_system, a_source, a_frame, a_dir, a_side, a_mode, an_extra, a_change, an_entry, Value}
 use Rattle.scenario.specs.Spelling.{AreDigits, AreHexDigits, side_text, dir_text, mode_text, SpellsValue, IsWord}
 use Rattle.scenario.specs.Printing.{hex_digit, source_text}
+
+-- what is printed for an entry
+abbrev entry_text : EntryWord → List ℕ
+entry_text Start = codes "-"
+entry_text Unreached = codes "."
+entry_text (Before name) = name
 
 -- what is printed for a value
 abbrev pub value_text : (k : Kind) → Value k → List ℕ
@@ -29,6 +40,9 @@ value_text a_frame frame = encode_lower frame
 value_text a_dir dir = dir_text dir
 value_text a_side side = side_text side
 value_text a_mode mode = mode_text mode
+value_text an_extra keyword = extra_text keyword
+value_text a_change change = change_text change
+value_text an_entry entry = entry_text entry
 
 -- the text spells the value, and is no longer than the word
 abbrev pub IsPrinted : (k : Kind) → Value k → List ℕ → List ℕ → Type 0
@@ -102,6 +116,11 @@ value-printed a_frame value word h =
 value-printed a_dir value word h = (refl, rw h (omega arith))
 value-printed a_side value word h = (refl, rw h (omega arith))
 value-printed a_mode value word h = (refl, rw h (omega arith))
+value-printed an_extra value word h = (refl, rw h (omega arith))
+value-printed a_change value word h = (refl, rw h (omega arith))
+value-printed an_entry Start word h = (refl, rw h (omega arith))
+value-printed an_entry Unreached word h = (refl, rw h (omega arith))
+value-printed an_entry (Before name) word h = ((rw (← h.1) h.0, refl), rw h.1 (omega arith))
 
 -- ---- a word that spells a value holds no blank
 
@@ -150,3 +169,12 @@ value-word a_side B word h = subst IsWord (sym h) refl
 value-word a_mode Both word h = subst IsWord (sym h) refl
 value-word a_mode Send word h = subst IsWord (sym h) refl
 value-word a_mode Recv word h = subst IsWord (sym h) refl
+value-word an_extra WhatIf word h = subst IsWord (sym h) refl
+value-word an_extra Proof word h = subst IsWord (sym h) refl
+value-word an_extra Check word h = subst IsWord (sym h) refl
+value-word a_change Down word h = subst IsWord (sym h) refl
+value-word a_change Up word h = subst IsWord (sym h) refl
+value-word a_change Metric word h = subst IsWord (sym h) refl
+value-word an_entry Start word h = subst IsWord (sym h) refl
+value-word an_entry Unreached word h = subst IsWord (sym h) refl
+value-word an_entry (Before name) word h = name-word word h.0

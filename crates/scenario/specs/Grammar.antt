@@ -5,14 +5,17 @@ use Rattle.spb_types.specs.declared.link.Side.{Side}
 use Rattle.spb_types.specs.declared.link.Dir.{Dir}
 use Rattle.scenario.specs.declared.command.Command.{Command}
 use Rattle.spb_types.specs.declared.service.Mode.{Mode}
+use Rattle.spb_types.specs.declared.entry_word.EntryWord.{EntryWord}
 use Rattle.spb_types.specs.declared.service.Mode.TheVariants.{Both}
 use Rattle.scenario.specs.declared.command.Command.TheVariants as command
 use Rattle.scenario.specs.declared.keyword.Keyword.{Keyword}
 use Rattle.scenario.specs.declared.keyword.Keyword.TheVariants.{Vid, Bridge, Link, Isid, Attach, Detach, Metric, Down, Up, Restart, Tick, Deliver, Lose, Double, Round, Drain, Frame, State, Show, Wiring, Db, Adj, Path, Drops}
+use Rattle.scenario.specs.declared.extra.ExtraKeyword.{ExtraKeyword}
+use Rattle.scenario.specs.declared.extra.Change.{Change}
 use Rattle.scenario.specs.declared.line.TheConstants.{LINE_LIMIT}
 use Rattle.scenario.specs.Words.{Word, Rest, rest_from, Reading, next, next_more, at_end}
-use Rattle.scenario.specs.WordForms.{name, number, system, source, frame, dir, side, mode}
-use Rattle.scenario.specs.Keywords.{keyword}
+use Rattle.scenario.specs.WordForms.{name, number, system, source, frame, dir, side, mode, entry}
+use Rattle.scenario.specs.Keywords.{keyword, extra_keyword, change_of}
 
 -- the kinds of words that follow a keyword
 pub data Kind : Type 0 where
@@ -24,6 +27,9 @@ pub data Kind : Type 0 where
   a_dir : Kind
   a_side : Kind
   a_mode : Kind
+  an_extra : Kind
+  a_change : Kind
+  an_entry : Kind
 
 -- what a word of the kind means
 abbrev pub Value : Kind → Type 0
@@ -35,6 +41,9 @@ Value a_frame = List ℕ
 Value a_dir = Dir
 Value a_side = Side
 Value a_mode = Mode
+Value an_extra = ExtraKeyword
+Value a_change = Change
+Value an_entry = EntryWord
 
 abbrev pub meaning : (k : Kind) → List ℕ → Option (Value k)
 meaning a_name = name
@@ -45,6 +54,9 @@ meaning a_frame = frame
 meaning a_dir = dir
 meaning a_side = side
 meaning a_mode = mode
+meaning an_extra = extra_keyword
+meaning a_change = change_of
+meaning an_entry = entry
 
 -- what may follow: words of these kinds, and what they then give. Where a word may follow, the line may also end
 -- before it, and then gives this.
@@ -80,11 +92,11 @@ infixl 10 ◌>>=◌
 abbrev pub ◌>>=◌ : {A : Type 0} → (k : Kind) → (Value k → Form A) → Form A
 k >>= f = takes k f
 
--- one name, and the command that it gives
-abbrev pub one_name : (List ℕ → Command) → Form Command
-one_name command = do
+-- one name, and what it gives
+abbrev pub one_name : {A : Type 0} → (List ℕ → A) → Form A
+one_name given = do
   name ← a_name
-  gives (command name)
+  gives (given name)
 
 -- the form of the line that each keyword begins
 unfoldable pub form_of : Keyword → Form Command

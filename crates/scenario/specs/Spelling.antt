@@ -2,6 +2,8 @@ use Rattle.std.specs.Prelude.{◌≡◌, ℕ, ◌+◌, ◌≤◌, ◌<◌, ◌%�
 use Rattle.std.specs.List.{list_all}
 use Rattle.hex.specs.Hex.{is_hex_digit}
 use Rattle.spb_types.specs.Name.{is_name, is_digit}
+use Rattle.spb_types.specs.declared.entry_word.EntryWord.{EntryWord}
+use Rattle.spb_types.specs.declared.entry_word.EntryWord.TheVariants.{Start, Before, Unreached}
 use Rattle.spb_types.specs.declared.link.Side.{Side}
 use Rattle.spb_types.specs.declared.link.Side.TheVariants.{A, B}
 use Rattle.spb_types.specs.declared.link.Dir.{Dir}
@@ -12,8 +14,8 @@ use Rattle.spb_types.specs.declared.service.Mode.TheVariants.{Both, Send, Recv}
 use Rattle.scenario.specs.declared.keyword.Keyword.{Keyword}
 use Rattle.scenario.specs.Words.{is_blank, Word, words_in}
 use Rattle.scenario.specs.WordForms.{decimal, decoded, hexadecimal}
-use Rattle.scenario.specs.Keywords.{text_of}
-use Rattle.scenario.specs.Grammar.{Kind, a_name, a_number, a_system, a_source, a_frame, a_dir, a_side, a_mode, Value, Form, gives, takes, may_take, form_of, is_comment}
+use Rattle.scenario.specs.Keywords.{text_of, extra_text, change_text}
+use Rattle.scenario.specs.Grammar.{Kind, a_name, a_number, a_system, a_source, a_frame, a_dir, a_side, a_mode, an_extra, a_change, an_entry, Value, Form, gives, takes, may_take, form_of, is_comment}
 use Rattle.scenario.specs.declared.line.TheConstants.{LINE_LIMIT}
 
 -- How a command may be spelled in a line.
@@ -37,6 +39,12 @@ mode_text Both = codes "both"
 mode_text Send = codes "send"
 mode_text Recv = codes "recv"
 
+-- the word spells the entry
+abbrev pub SpellsEntry : EntryWord → List ℕ → Type 0
+SpellsEntry Start word = word ≡ codes "-"
+SpellsEntry Unreached word = word ≡ codes "."
+SpellsEntry (Before name) word = IsTrue (is_name word) × (word ≡ name)
+
 -- the word spells the value
 abbrev pub SpellsValue : (k : Kind) → Value k → List ℕ → Type 0
 SpellsValue a_name name word = IsTrue (is_name word) × (word ≡ name)
@@ -47,6 +55,9 @@ SpellsValue a_frame frame word = (1 ≤ length word) × (length word % 2 ≡ 0) 
 SpellsValue a_dir dir word = word ≡ dir_text dir
 SpellsValue a_side side word = word ≡ side_text side
 SpellsValue a_mode mode word = word ≡ mode_text mode
+SpellsValue an_extra keyword word = word ≡ extra_text keyword
+SpellsValue a_change change word = word ≡ change_text change
+SpellsValue an_entry entry word = SpellsEntry entry word
 
 -- the words spell what the form takes, one word for each, and the form then gives the command
 abbrev pub SpellsForm : {A : Type 0} → Form A → A → List (List ℕ) → Type 0

@@ -1,11 +1,14 @@
 use Rattle.std.specs.Prelude.{ℕ, ◌+◌, ◌-◌, ◌*◌, ◌%◌, List, [], length, ◌&&◌, ◌==◌, nat_le, if◌then◌else◌, Option, Some, None, Result, Ok, Err, codes, fold, unwrap_or}
 use Rattle.std.specs.List.{list_all}
+use Rattle.std.specs.Option.{option_map}
 use Rattle.std.specs.Str.{bytes_eq}
 use Rattle.hex.specs.Hex.{decode_of, hex_digit_value, is_hex_digit}
 use Rattle.hex.specs.declared.error.FromHexError.{FromHexError}
 use Rattle.spb_types.specs.Name.{is_name, is_digit}
 use Rattle.spb_types.specs.declared.address.Mac.{Mac}
 use Rattle.spb_types.specs.declared.service.SourceId.{SourceId}
+use Rattle.spb_types.specs.declared.entry_word.EntryWord.{EntryWord}
+use Rattle.spb_types.specs.declared.entry_word.EntryWord.TheVariants.{Start, Before, Unreached}
 use Rattle.spb_types.specs.declared.link.Side.{Side}
 use Rattle.spb_types.specs.declared.link.Side.TheVariants.{A, B}
 use Rattle.spb_types.specs.declared.link.Dir.{Dir}
@@ -68,3 +71,9 @@ mode word =
 -- `a` or `b`
 unfoldable pub side : List ℕ → Option Side
 side word = if bytes_eq word (codes "a") then Some A else (if bytes_eq word (codes "b") then Some B else None)
+
+-- `-`, `.` or a name
+unfoldable pub entry : List ℕ → Option EntryWord
+entry word =
+    if bytes_eq word (codes "-") then Some Start
+    else (if bytes_eq word (codes ".") then Some Unreached else option_map Before (name word))

@@ -4,8 +4,10 @@ ghost use Rattle.hex.specs.Hex.{hex_digit_value, is_hex_digit};
 ghost use Rattle.std.specs.List.{list_all};
 ghost use Rattle.spb_types.specs.Name.{is_digit};
 ghost use Rattle.scenario.specs.WordForms as forms;
+ghost use Rattle.scenario.specs.Keywords.{extra_keyword, change_of};
 
-use spb_types::{Dir, Mac, Mode, Name, NoMemory, Seq, Side, SourceId};
+use crate::extra::{Change, ExtraKeyword};
+use spb_types::{Dir, EntryWord, Mac, Mode, Name, NoMemory, Seq, Side, SourceId};
 use std::alloc::Global;
 use std::marker::Model;
 
@@ -157,6 +159,35 @@ impl<'a> Field<'a> for Side {
             b"a" => Some(Side::A),
             b"b" => Some(Side::B),
             _ => None,
+        }
+    }
+}
+
+impl<'a> Field<'a> for ExtraKeyword {
+    ghost meaning = { extra_keyword };
+
+    fn read(word: &'a [u8]) -> Option<ExtraKeyword> {
+        ExtraKeyword::read(word)
+    }
+}
+
+impl<'a> Field<'a> for Change {
+    ghost meaning = { change_of };
+
+    fn read(word: &'a [u8]) -> Option<Change> {
+        Change::read(word)
+    }
+}
+
+impl<'a> Field<'a> for EntryWord {
+    ghost meaning = { forms.entry };
+
+    #[tactic(auto, unfolding(crate::specs::WordForms::entry, crate::specs::WordForms::name))]
+    fn read(word: &'a [u8]) -> Option<EntryWord> {
+        match word {
+            b"-" => Some(EntryWord::Start),
+            b"." => Some(EntryWord::Unreached),
+            _ => Some(EntryWord::Before(Name::new(word)?)),
         }
     }
 }

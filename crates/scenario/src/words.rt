@@ -1,12 +1,11 @@
 //! The words of a line with their columns, one after another.
-ghost use Rattle.std.specs.Prelude.{◌≡◌, ◌≤◌, ◌+◌, [], ◌∷◌, length, MatchOption, Ok};
+ghost use Rattle.std.specs.Prelude.{◌≡◌, ◌≤◌, [], ◌∷◌, length, MatchOption, Ok};
 ghost use Rattle.std.specs.List.{prefix_len, position_or_len};
 ghost use Rattle.scenario.specs.Words.{is_blank as is_blank_byte, rest_from, next, next_more, at_end};
 ghost use Rattle.scenario.specs.Answers.{Ends, Takes};
 
 use crate::error::LineError;
 use crate::field::Field;
-use crate::line::LINE_LIMIT;
 use std::marker::Model;
 
 /// What is left of a line: its words from left to right.
@@ -17,15 +16,14 @@ pub struct Words<'a> {
 }
 
 impl<'a> Model for Words<'a> {
-    ghost use Rattle.std.specs.Prelude.{◌+◌, ◌≤◌, length};
-    ghost use Rattle.scenario.specs.declared.line.TheConstants.{LINE_LIMIT};
+    ghost use Rattle.std.specs.Prelude.{◌+◌, ◌≤◌, ◌^◌, length};
     ghost use Rattle.scenario.specs.Words.{Rest, rest_from};
 
     ghost Value = { Rest };
 
     ghost view = { λ w. rest_from w.column w.bytes.now };
 
-    ghost invariant = { λ w. w.column + length w.bytes.now ≤ LINE_LIMIT + 1 };
+    ghost invariant = { λ w. w.column + length w.bytes.now ≤ 2 ^ 63 };
 }
 
 /// Whether a byte stands between words: a space or a tab.
@@ -55,7 +53,6 @@ fn word_len(bytes: &[u8]) -> usize
 impl<'a> Words<'a> {
     /// The words of a line.
     pub fn new(line: &'a [u8]) -> Words<'a>
-        requires { length line.now ≤ LINE_LIMIT }
         ensures { result ≡ rest_from 1 line.now }
     {
         Words {

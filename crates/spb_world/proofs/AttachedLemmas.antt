@@ -6,12 +6,13 @@ use Rattle.std.proofs.lemmas.Bool.{eqb-true, eq-eqb, ne_eqb, ltb-true, leb-true,
 use Rattle.std.proofs.lemmas.Bool.Decides.{nat_tests}
 use Rattle.std.proofs.lemmas.List.{take_more}
 use Rattle.std.proofs.lemmas.List.Elements.{filter_map-append}
+use Rattle.spb_types.specs.Service.{sends}
 use Rattle.spb_types.specs.declared.limits.TheConstants.{MOST_ISIDS}
 use Rattle.spb_types.specs.declared.service.Attachment.{Attachment}
 use Rattle.bridge_api.specs.Config.{ArePairwise, different}
 use Rattle.bridge_api.specs.Services.{without_customer_port}
 use Rattle.spb_world.specs.World.{World, Attachments, attachment_at, IsAttachedIn, AreAtTwoPorts, Sound}
-use Rattle.spb_world.specs.Attaching.{isids_of, different_isids, isids_with, has_isid_room, IsNewAttachment, with_one_at, with_attachment_at, is_elsewhere, without_attachment_at}
+use Rattle.spb_world.specs.Attaching.{is_attached, is_sending, isids_of, different_isids, isids_with, has_isid_room, IsNewAttachment, with_one_at, with_attachment_at, is_elsewhere, without_attachment_at}
 use Rattle.spb_content.proofs.Members.{all_append}
 use Rattle.spb_world.proofs.ListLemmas.{All-map}
 use Rattle.spb_world.proofs.BoxLemmas.{append-none}
@@ -33,6 +34,16 @@ any_at p i (x ∷ xs) = by (x.0 == i) (any_at p i xs)
     by : (b : Bool) → list_any (λ y. (y.0 == i) && p y.1) xs ≡ list_any p (filter_map (attachment_at i) xs) → ((b && p x.1) || list_any (λ y. (y.0 == i) && p y.1) xs) ≡ list_any p (cons_option (if b then Some x.1 else None) (filter_map (attachment_at i) xs))
     by true rest = ap (λ (c : Bool). p x.1 || c) rest
     by false rest = rest
+
+-- what sends at a port is attached there
+pub sending_attached : (i port : ℕ) (xs : Attachments) → is_sending xs i port ≡ true → is_attached xs i port ≡ true
+sending_attached i port [] sending = sending
+sending_attached i port (x ∷ xs) sending = by (x.0 == i) (x.1.port == port) (sends x.1.mode) sending (sending_attached i port xs)
+  where
+    by : (b c d : Bool) → ((b && (c && d)) || is_sending xs i port) ≡ true → (is_sending xs i port ≡ true → is_attached xs i port ≡ true) → ((b && c) || is_attached xs i port) ≡ true
+    by true true d is rest = refl
+    by true false d is rest = rest is
+    by false c d is rest = rest is
 
 any_map : {X Y : Type 0} (p : Y → Bool) (f : X → Y) (xs : List X) → list_any (λ x. p (f x)) xs ≡ list_any p (map f xs)
 any_map p f [] = refl

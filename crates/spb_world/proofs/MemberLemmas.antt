@@ -1,8 +1,8 @@
 -- The members of the wiring are those that what is attached makes, merged bridge by bridge.
-use Rattle.std.proofs.Common.{◌≡◌, ℕ, zero, suc, ◌+◌, ◌*◌, ◌<◌, ◌≤◌, ◌⊎◌, inl, inr, Bool, true, ◌&&◌, eqb, List, [], ◌∷◌, ◌++◌, map, Contains, refl, sym, ap, ◌∙◌, subst, arith}
+use Rattle.std.proofs.Common.{◌≡◌, ℕ, zero, suc, ◌+◌, ◌*◌, ◌<◌, ◌≤◌, inl, inr, Bool, true, false, ◌&&◌, eqb, List, [], ◌∷◌, ◌++◌, length, map, Contains, refl, sym, ap, ◌∙◌, subst, arith}
 use Rattle.std.specs.Prelude.{flat_map}
 use Rattle.std.specs.List.{AllByRecursion, filter_map, list_any, range_with_len, slice_index_or}
-use Rattle.std.proofs.lemmas.Bool.{eq-eqb}
+use Rattle.std.proofs.lemmas.Bool.{eq-eqb, eqb-true, eqb-false}
 use Rattle.std.proofs.lemmas.Grind.{flat_map-append}
 use Rattle.spb_types.specs.Service.{sends, receives}
 use Rattle.spb_types.specs.declared.address.SystemId.{SystemId}
@@ -18,7 +18,7 @@ use Rattle.fdb_build.specs.Groups.{Sends, Receives}
 use Rattle.fdb_build.proofs.GroupTests.{has_any}
 use Rattle.bridge_api.specs.Own.{member_of}
 use Rattle.spb_world.specs.World.{World, Bridges, attachment_at, attached_at, by_place, bridge_members, members_at, system_at, world_members, world_graph, IsService, IsAttachedIn, Sound}
-use Rattle.spb_world.specs.Members.{HaveIsids, members_in, members_up_to}
+use Rattle.spb_world.specs.Members.{members_in, members_up_to}
 use Rattle.spb_world.proofs.ServiceLemmas.{service_found}
 use Rattle.spb_world.proofs.BoxLemmas.{append-none}
 use Rattle.spb_world.proofs.AttachedLemmas.{all_at}
@@ -34,11 +34,11 @@ range_more a (suc n) =
 
 has_place : (a n i : ℕ) → a ≤ i → i < a + n → Has i (range_with_len a n)
 has_place a zero i low high = absurd (omega (arith, low, high))
-has_place a (suc n) i low high = by (omega arith)
+has_place a (suc n) i low high = by (eqb i a) refl (λ later. has_place (a + 1) n i later (omega (arith, high)))
   where
-    by : (i ≡ a) ⊎ (a + 1 ≤ i) → Has i (range_with_len a (suc n))
-    by (inl here) = inl here
-    by (inr later) = inr (has_place (a + 1) n i later (omega (arith, high)))
+    by : (b : Bool) → eqb i a ≡ b → (a + 1 ≤ i → Has i (range_with_len (a + 1) n)) → Has i (range_with_len a (suc n))
+    by true here rest = inl (eqb-true i a here)
+    by false other rest = inr (rest (omega (arith, low, eqb-false i a other)))
 
 place_has : (a n i : ℕ) → Has i (range_with_len a n) → i < a + n
 place_has a zero i h = absurd h
@@ -70,6 +70,9 @@ members_are w lists n is =
 
 -- ---- what is attached has an I-SID in range
 
+abbrev HaveIsids : List Attachment → Type 0
+HaveIsids attached = AllByRecursion (λ a. a.isid.value ≤ GREATEST_ISID) attached
+
 isid_high : (w : World) → Sound w → (x : ℕ × Attachment) → IsAttachedIn w.bridges w.services x → x.1.isid.value ≤ GREATEST_ISID
 isid_high w sound x is =
     let service = service_found (IsService w.vids) w.services x.1.isid.value x.1.vid sound.services is.service in
@@ -78,14 +81,11 @@ isid_high w sound x is =
 isids_at : (w : World) (i : ℕ) → Sound w → HaveIsids (attached_at w i)
 isids_at w i sound = all_at (λ (a : Attachment). a.isid.value ≤ GREATEST_ISID) i w.attached (weaker (IsAttachedIn w.bridges w.services) (λ (x : ℕ × Attachment). x.0 ≡ i → x.1.isid.value ≤ GREATEST_ISID) w.attached (λ x h e. isid_high w sound x h) sound.attached)
 
-pub have_isids : (w : World) (lists : List (List Attachment)) (place : ℕ) → Sound w → w.attached ≡ by_place lists → HaveIsids (slice_index_or lists place [])
-have_isids w lists place sound is = subst HaveIsids (ap (filter_map (attachment_at place)) is ∙ those_are place lists) (isids_at w place sound)
-
 -- so has the member that it makes
-abbrev pub HaveIsid : List Member → Type 0
+abbrev HaveIsid : List Member → Type 0
 HaveIsid ms = AllByRecursion (λ m. m.isid.value ≤ GREATEST_ISID) ms
 
-pub isids_of_members : (system : SystemId) (attached : List Attachment) → HaveIsids attached → HaveIsid (map (member_of system) attached)
+isids_of_members : (system : SystemId) (attached : List Attachment) → HaveIsids attached → HaveIsid (map (member_of system) attached)
 isids_of_members system [] all = tt
 isids_of_members system (a ∷ attached) all = (all.0, isids_of_members system attached all.1)
 
@@ -128,7 +128,7 @@ made system attached m h =
     }
 
 -- whatever is attached makes its bridge the member of its pair
-pub makes : (system : SystemId) (attached : List Attachment) (a : Attachment) → HaveIsids attached → Has a attached → Has (member_for system (map (member_of system) attached) (pair_of (member_of system a))) (bridge_members system attached)
+makes : (system : SystemId) (attached : List Attachment) (a : Attachment) → HaveIsids attached → Has a attached → Has (member_for system (map (member_of system) attached) (pair_of (member_of system a))) (bridge_members system attached)
 makes system attached a high h = pair_merged system (map (member_of system) attached) (member_of system a) (isids_of_members system attached high) (has_map (member_of system) a attached h)
 
 -- which does what it does

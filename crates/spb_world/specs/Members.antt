@@ -1,14 +1,9 @@
 -- The members of services, made of a list of what is attached for each bridge.
-use Rattle.std.specs.Prelude.{ℕ, ◌≤◌, List, [], flat_map}
-use Rattle.std.specs.List.{AllByRecursion, range_with_len, slice_index_or}
+use Rattle.std.specs.Prelude.{ℕ, List, [], flat_map}
+use Rattle.std.specs.List.{range_with_len, slice_index_or}
 use Rattle.spb_types.specs.declared.graph.Member.{Member}
-use Rattle.spb_types.specs.declared.limits.TheConstants.{GREATEST_ISID}
 use Rattle.spb_types.specs.declared.service.Attachment.{Attachment}
 use Rattle.spb_world.specs.World.{Bridges, system_at, bridge_members}
-
--- what is attached has I-SIDs in range
-abbrev pub HaveIsids : List Attachment → Type 0
-HaveIsids attached = AllByRecursion (λ a. a.isid.value ≤ GREATEST_ISID) attached
 
 -- the members that the bridge at a place is by the list that has its place
 abbrev pub members_in : Bridges → List (List Attachment) → ℕ → List Member

@@ -1,6 +1,6 @@
 //! The graph of the wiring, part by part: bridges, edges of links that are up, members of services.
-ghost use Rattle.std.specs.Prelude.{◌≡◌, ◌++◌, ℕ, [], length, map, OnOk, IfOk};
-ghost use Rattle.std.specs.List.{filter_map, slice_index_or};
+ghost use Rattle.std.specs.Prelude.{◌≡◌, ◌++◌, length, map, OnOk, IfOk};
+ghost use Rattle.std.specs.List.{filter_map};
 ghost use Rattle.bridge_api.specs.Own as own;
 ghost use Rattle.spb_world.specs.World as state;
 ghost use Rattle.spb_world.specs.Members as made;
@@ -114,7 +114,6 @@ fn put_members(
     system: SystemId,
     attached: &[Attachment],
 ) -> Result<(), NoMemory>
-    requires { made.HaveIsids attached.now }
     ensures { OnOk result (members.new.items ≡ members.old.items ++ state.bridge_members system attached.now) }
 {
     let each = port_members(alloc, system, attached)?;
@@ -130,7 +129,6 @@ pub fn graph_members(
     bridges: &IndexMap<Name, DeclaredBridge>,
     attached: &Attached,
 ) -> Result<Vec<Member>, NoMemory>
-    requires { (place : ℕ) → made.HaveIsids (slice_index_or attached.now place []) }
     ensures { IfOk result (λ list. list.items ≡ made.members_up_to bridges.now.entries attached.now (length bridges.now.entries)) }
 {
     let mut members = Vec::new(alloc);

@@ -509,14 +509,14 @@ impl World {
     }
 
     /// Why a customer's frame can't enter at a customer port of the bridge at a place, if it can't. It takes a pass
-    /// over what is attached at this bridge.
+    /// over what is attached at this bridge, and a second one where nothing there sends.
     #[tactic(auto, unfolding(crate::specs::Attaching::entry_refusal))]
     pub fn entry_refusal(&self, place: usize, port: u64, frame: &[u8]) -> Option<Reason>
         ensures { result ≡ attaching.entry_refusal self.now place port frame.now }
     {
         let is_range = is_customer_port(port) && is_customer_frame(frame);
-        let is_there = self.is_attached(place, port);
         let sends = self.is_sending(place, port);
+        let is_there = sends || self.is_attached(place, port);
         reason_unless(is_range, Reason::Range)
             .or(reason_unless(is_there, Reason::NotAttached))
             .or(reason_unless(sends, Reason::ReceiveOnly))

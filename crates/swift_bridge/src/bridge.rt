@@ -15,7 +15,7 @@ use fdb_build::tables_by;
 use fork_trees::TreeSet;
 use lsdb::Held;
 use spb_types::{
-    Graph, Isid, Mac, NoMemory, Path, PortSet, SystemId, Tables, Vid, group_of, unicast_of,
+    Graph, Isid, Mac, Mode, NoMemory, Path, PortSet, SystemId, Tables, Vid, group_of, unicast_of,
 };
 use std::alloc::Global;
 use std::cell::RefCell;
@@ -264,9 +264,9 @@ impl Bridge for SwiftBridge {
         self.control.set_metric(port, metric)
     }
 
-    fn attach(&mut self, port: u16, isid: Isid, vid: Vid) -> Result<(), NoMemory> {
+    fn attach(&mut self, port: u16, isid: Isid, vid: Vid, mode: Mode) -> Result<(), NoMemory> {
         put_back(&mut self.shown, &self.kept);
-        self.control.attach(port, isid, vid)
+        self.control.attach(port, isid, vid, mode)
     }
 
     fn detach(&mut self, port: u16) -> Result<(), NoMemory> {

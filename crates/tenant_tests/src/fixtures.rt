@@ -6,6 +6,9 @@ use std::process::Abort;
 /// A customer's frame to all addresses.
 pub(crate) const TO_ALL: &[u8] = b"\xff\xff\xff\xff\xff\xff\x0a\x00\x00\x00\x00\x01\x08\x00";
 
+/// Customer 2's frame to customer 1, who sent the one above.
+pub(crate) const TO_ONE: &[u8] = b"\x0a\x00\x00\x00\x00\x01\x0a\x00\x00\x00\x00\x02\x08\x00";
+
 /// The I-SID of the service in most tests.
 pub(crate) const ISID: Isid = Isid { value: 100 };
 

@@ -1,29 +1,39 @@
 //! Tests of what becomes of frames.
-use crate::fixtures::{ISID, TO_ALL, VID, are_bytes, are_equal, mac};
+use crate::fixtures::{ISID, TO_ALL, TO_ONE, VID, are_bytes, are_equal, mac};
 use customer_learning::{Learned, Place};
 use forwarding::{Moved, Tenant, from_backbone, from_customer};
 use itag_frames::{encapsulate, open_frame};
 use spb_types::{
-    Attachment, DropReason, GroupRow, Isid, Mac, PortSet, Seq, SourceId, Tables, UnicastRow,
+    Attachment, DropReason, GroupRow, Isid, Mac, Mode, PortSet, Seq, SourceId, Tables, UnicastRow,
     group_address,
 };
 use std::alloc::Global;
 use std::process::Abort;
 
 /// A customer port of the service.
-fn attachment(port: u16) -> Attachment {
+fn attachment(port: u16, mode: Mode) -> Attachment {
     Attachment {
         port,
         isid: ISID,
         vid: VID,
+        mode,
     }
 }
 
-/// The bridge 1, with customer ports 2 and 1 attached to I-SID 100.
+/// The bridge 1, with customer ports 2 and 1 attached to I-SID 100, which send and receive.
 fn tenant(rt: &impl Abort, alloc: Global) -> Tenant {
+    tenant_in(rt, alloc, Mode::Both, Mode::Both)
+}
+
+/// The same, with the modes of the ports 2 and 1.
+fn tenant_in(rt: &impl Abort, alloc: Global, two: Mode, one: Mode) -> Tenant {
     let mut attached = Seq::new(alloc);
-    attached.push(attachment(2)).expect(rt, "out of memory");
-    attached.push(attachment(1)).expect(rt, "out of memory");
+    attached
+        .push(attachment(2, two))
+        .expect(rt, "out of memory");
+    attached
+        .push(attachment(1, one))
+        .expect(rt, "out of memory");
     Tenant {
         me: mac(2, 1),
         source: SourceId { value: 1 },
@@ -128,4 +138,37 @@ fn a_backbone_frame_is_dropped_for_a_reason(rt: HostRuntime) {
     is_dropped(&rt, rt.alloc(), 2, mac(2, 1), DropReason::Ingress);
     is_dropped(&rt, rt.alloc(), 1, of_another, DropReason::Mismatch);
     is_dropped(&rt, rt.alloc(), 1, mac(2, 9), DropReason::NoWay);
+}
+
+#[test]
+fn a_port_that_only_sends_is_left_out(rt: HostRuntime) {
+    let alloc = rt.alloc();
+    let mut tenant = tenant_in(&rt, alloc, Mode::Send, Mode::Both);
+    let tables = tables(&rt, alloc);
+    let moved = from_customer(alloc, &mut tenant, &tables, 1, TO_ALL).expect(&rt, "out of memory");
+    has_left(&rt, &moved, &[]);
+    is_sent(&rt, &moved, 36);
+    let moved = received(&rt, alloc, &mut tenant, 1, mac(2, 1));
+    has_left(&rt, &moved, &[1]);
+}
+
+#[test]
+fn a_frame_to_a_port_that_only_sends_ends_there(rt: HostRuntime) {
+    let alloc = rt.alloc();
+    let mut tenant = tenant_in(&rt, alloc, Mode::Send, Mode::Both);
+    let tables = tables(&rt, alloc);
+    from_customer(alloc, &mut tenant, &tables, 2, TO_ALL).expect(&rt, "out of memory");
+    is_at(&rt, &mut tenant, Place::Local(2));
+    let moved = from_customer(alloc, &mut tenant, &tables, 1, TO_ONE).expect(&rt, "out of memory");
+    has_left(&rt, &moved, &[]);
+    are_equal(&rt, &moved.wire.len(), &0);
+    are_equal(&rt, &moved.dropped, &None);
+}
+
+#[test]
+fn a_bridge_learns_at_ports_that_only_send(rt: HostRuntime) {
+    let mut tenant = tenant_in(&rt, rt.alloc(), Mode::Send, Mode::Send);
+    let moved = received(&rt, rt.alloc(), &mut tenant, 1, mac(2, 1));
+    has_left(&rt, &moved, &[]);
+    is_at(&rt, &mut tenant, Place::Remote(mac(2, 2)));
 }
