@@ -16,8 +16,7 @@ impl World {
     #[tactic(auto, unfolding(crate::specs::Changing::with_change))]
     pub fn after(&self, alloc: Global, change: &Command) -> Result<World, NoMemory>
         requires { changing.change_refusal self.now change.now ≡ None }
-        ensures world { IfOk result (λ world. world ≡ changing.with_change self.now change.now) }
-        ensures sound { IfOk result Sound }
+        ensures { IfOk result (λ world. world ≡ changing.with_change self.now change.now) }
     {
         let mut world = self.copied(alloc)?;
         match change {

@@ -83,8 +83,7 @@ impl World {
 
     /// A copy, in which no fabric of the wiring is kept.
     pub fn copied(&self, alloc: Global) -> Result<World, NoMemory>
-        ensures world { IfOk result (λ world. world ≡ self.now) }
-        ensures sound { IfOk result state.Sound }
+        ensures { IfOk result (λ world. world ≡ self.now) }
     {
         Ok(World {
             vids: Vec::from_slice(alloc, self.vids.as_slice())?,

@@ -1,12 +1,11 @@
 -- The order of the rows of both tables, and that the tables of a valid graph stand in it.
-use Rattle.std.proofs.Common.{◌≡◌, ◌≢◌, ℕ, zero, suc, List, [], ◌∷◌, ◌++◌, map, drop, refl, sym, ap, ◌∙◌, Ordering, Less, Equal, Greater}
+use Rattle.std.proofs.Common.{◌≡◌, ◌≢◌, ℕ, zero, suc, List, [], ◌∷◌, ◌++◌, map, drop, refl, sym, ◌∙◌, Less, Equal}
 use Rattle.std.specs.List.{AllByRecursion}
 use Rattle.std.proofs.lemmas.Cmp.{tied_itself}
 use Rattle.spb_types.specs.declared.tables.UnicastRow.{UnicastRow}
 use Rattle.spb_types.specs.declared.tables.GroupRow.{GroupRow}
 use Rattle.spb_types.specs.declared.tables.TableRow.{TableRow}
 use Rattle.spb_types.specs.declared.tables.TableRow.TheVariants.{Unicast, Group}
-use Rattle.spb_types.specs.declared.tables.Tables.{Tables}
 use Rattle.fdb_build.specs.Tables.{AscendsBy, row_cmp}
 use Rattle.fdb_build.specs.Groups.{group_cmp}
 use Rattle.fdb_build.proofs.TableLemmas.{rows_total, rows_are_table}

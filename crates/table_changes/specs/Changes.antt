@@ -16,14 +16,15 @@ use Rattle.table_changes.specs.declared.differing.Change.{Change}
 abbrev pub rows_of : Tables → List TableRow
 rows_of t = map Unicast t.unicast ++ map Group t.group
 
--- two unicast rows, or two group rows, with the same VID, address, and port or ports
+-- two unicast rows have the same VID, address and port
 abbrev pub same_unicast : UnicastRow → UnicastRow → Bool
 same_unicast r s = (r.vid.value == s.vid.value) && (bytes_eq r.mac.bytes s.mac.bytes && (r.port == s.port))
 
+-- two group rows have the same VID, address and ports
 abbrev pub same_group : GroupRow → GroupRow → Bool
 same_group r s = (r.vid.value == s.vid.value) && (bytes_eq r.mac.bytes s.mac.bytes && (r.ports.bits == s.ports.bits))
 
--- two rows are the same
+-- two rows are the same, which the derived == tells
 abbrev pub same_row : TableRow → TableRow → Bool
 same_row (Unicast r) (Unicast s) = same_unicast r s
 same_row (Unicast r) (Group s) = false
@@ -34,11 +35,11 @@ same_row (Group r) (Group s) = same_group r s
 abbrev pub is_row_in : TableRow → List TableRow → Bool
 is_row_in r rows = list_any (same_row r) rows
 
--- the rows of a bridge's tables that others lack
+-- the rows of the old tables that the new ones lack
 abbrev pub gone : Tables → Tables → List TableRow
 gone old new = filter (λ r. not (is_row_in r (rows_of new))) (rows_of old)
 
--- a row comes to the bridge at place i, or goes
+-- a row comes to the tables of the bridge at place i, or goes from them
 abbrev pub change_at : ℕ → Bool → TableRow → Change
 change_at i added r = record { bridge = i; added = added; row = r }
 
