@@ -82,8 +82,8 @@ SaysItsNeighbours = (v : BridgeView) (n : Neighbour) → Contains (local_of v).n
 
 -- ---- of which services it says that it is a member
 
--- what a bridge reads of what it says: it is a member of each service that its customer ports are attached to, once, and
--- transmits and receives there as they do together
+-- what a bridge reads of what it says: it is a member of each service that its customer ports are attached to, once,
+-- and transmits and receives there as they do together
 abbrev pub MembersAreSaid : Type 0
 MembersAreSaid = (v : BridgeView) → IsSoundView v
     → members_of (v.id.system, said_by (local_of v)) ≡ merged v.id.system (local_of v).attached

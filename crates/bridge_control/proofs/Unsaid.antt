@@ -1,6 +1,6 @@
 -- A customer port beside others that do the same in its service: the bridge says the same of itself with it and without
 -- it.
-use Rattle.std.proofs.Common.{Option, Some, ◌≡◌, ◌⊎◌, inl, inr, ℕ, zero, suc, ◌+◌, ◌*◌, take, drop, Bool, true, false, List, [], ◌∷◌, ◌++◌, map, refl, sym, ap, ◌∙◌, subst, arith}
+use Rattle.std.proofs.Common.{Option, Some, ◌≡◌, ◌⊎◌, inl, inr, ℕ, zero, suc, ◌+◌, ◌*◌, take, drop, Bool, true, false, List, [], ◌∷◌, ◌++◌, map, refl, sym, ap, ◌∙◌, subst}
 use Rattle.std.specs.Prelude.{not, ◌||◌, ◌&&◌, ◌==◌}
 use Rattle.std.specs.List.{list_any, list_all}
 use Rattle.std.proofs.lemmas.Bool.{eqb-true}
@@ -19,11 +19,12 @@ use Rattle.flooding.specs.Own.{own_numbers}
 use Rattle.flooding.specs.Settling.{AreCurrent}
 use Rattle.spb_content.specs.declared.local.Local.{Local}
 use Rattle.spb_content.specs.Fragments.{unless_none, fragment, fragments_from, bodies_saying}
-use Rattle.spb_content.specs.Local.{IsLocal, IsAttached, content_bytes, service_tlvs}
-use Rattle.spb_content.specs.Members.{merged, HasNumbers}
+use Rattle.spb_content.specs.Local.{IsLocal, content_bytes, service_tlvs}
+use Rattle.spb_content.specs.Members.{merged}
 use Rattle.spb_content.proofs.Covered.{any_has, IsPaired, IsDone, IsCovered, AreCovered}
-use Rattle.spb_content.proofs.Members.{Has, has_left, has_parts, has_map, map_has, has_filter, filter_has, weaker}
+use Rattle.spb_content.proofs.Members.{Has, has_left, has_parts, has_map, map_has, has_filter, filter_has}
 use Rattle.spb_content.proofs.Merged.{merged_same}
+use Rattle.spb_content.proofs.Pairs.{attached_numbers}
 use Rattle.bridge_api.specs.View.{BridgeView}
 use Rattle.bridge_api.specs.Own.{member_of, local_of, bodies_of, own_of}
 use Rattle.bridge_api.specs.Customers.{with_learned}
@@ -175,9 +176,6 @@ members_covered s xs ys within m h =
     let x = map_has (member_of s) m xs h in
     subst (λ n. IsCovered n (map (member_of s) ys)) (sym x.2) (covered_member s x.0 ys (within x.0 x.1))
 
-has_numbers : (m : Member) → IsAttached m → HasNumbers m
-has_numbers m at = record { isid = omega (arith, at.isid_high); vid = omega (arith, at.vid_high) }
-
 -- ---- the bridge says the same
 
 same_fragment : (l : Local) (ms ns : List Member) → merged l.config.id.system ms ≡ merged l.config.id.system ns → (k : ℕ) → fragment (record l { attached = ms }) k ≡ fragment (record l { attached = ns }) k
@@ -201,7 +199,7 @@ same_bodies v attached learned before after within beyond =
     let s : SystemId = v.id.system in
     let services : merged s (map (member_of s) attached) ≡ merged s (map (member_of s) v.attached) =
     merged_same s (map (member_of s) attached) (map (member_of s) v.attached)
-    (weaker IsAttached HasNumbers (map (member_of s) attached) has_numbers after.attached) (weaker IsAttached HasNumbers (map (member_of s) v.attached) has_numbers before.attached)
+    (attached_numbers (map (member_of s) attached) after.attached) (attached_numbers (map (member_of s) v.attached) before.attached)
     (members_covered s attached v.attached within) (members_covered s v.attached attached beyond) in
     ap (λ (fragments : List (Option (List ℕ))). bodies_saying LEVEL_1 fragments) (same_fragments (local_of v) (map (member_of s) attached) (map (member_of s) v.attached) services own_numbers 0)
 

@@ -1,2 +1,3 @@
 pub mod ManyServices
 mod Services
+mod TwoPorts

@@ -1,12 +1,13 @@
 -- The services of the bridges in the tests of fragments.
 use Rattle.std.specs.Prelude.{◌≡◌, ℕ, zero, suc, ◌+◌, List, [], ◌∷◌, ◌++◌, length}
 use Rattle.spb_types.specs.declared.service.Attachment.{Attachment}
+use Rattle.spb_types.specs.declared.service.Mode.TheVariants.{Both}
 use Rattle.bridge_api.specs.Config.{vids_of}
 use Rattle.bridge_api.specs.View.{BridgeView}
 
 -- a customer port, attached to the I-SID of its number and a base in the VID 10
 abbrev pub service : ℕ → ℕ → Attachment
-service base port = record { port = port; isid = record { value = base + port }; vid = record { value = 10 } }
+service base port = record { port = port; isid = record { value = base + port }; vid = record { value = 10 }; mode = Both }
 
 -- the customer ports from 1 to a count, attached so
 abbrev pub services : ℕ → ℕ → List Attachment

@@ -1,5 +1,5 @@
 //! Tests of the counts of dropped frames.
-ghost use Rattle.std.specs.Prelude.{◌≡◌, true};
+ghost use Rattle.std.specs.Prelude.{◌≡◌, true, false};
 
 use crate::fixtures::{DEAD, Made, are_equal, boxed, changed, meet};
 use bridge_api::{Bridge, DropReason, Drops};
@@ -28,8 +28,9 @@ const PSNP: &[u8] = b"\
     \x00\x02\xc2\xf3";
 
 /// All counts of a bridge.
-fn counts<B: Bridge>(made: &Made<B>) -> Drops {
-    let bridge = &made.bridge;
+pub(crate) fn counts_of<B: Bridge>(bridge: &B) -> Drops
+    requires { (B.shown bridge.now).blank ≡ false }
+{
     Drops {
         frame: bridge.drops(DropReason::Frame),
         pdu: bridge.drops(DropReason::Pdu),
@@ -41,6 +42,10 @@ fn counts<B: Bridge>(made: &Made<B>) -> Drops {
         mismatch: bridge.drops(DropReason::Mismatch),
         full: bridge.drops(DropReason::Full),
     }
+}
+
+fn counts<B: Bridge>(made: &Made<B>) -> Drops {
+    counts_of(&made.bridge)
 }
 
 /// Whether a frame that comes to a port raises one count by one, and no other.

@@ -5,7 +5,9 @@ ghost use Rattle.bridge_api.specs.Config.{IsMetric, IsWhole};
 use adjacency::Adjacency;
 use bridge_api::{Bridge, BridgeConfig, Outbox, first_life};
 use lsdb::Version;
-use spb_types::{Attachment, BridgeId, Isid, Mac, NoMemory, Seq, SourceId, SystemId, Vid, VidPlan};
+use spb_types::{
+    Attachment, BridgeId, Isid, Mac, Mode, NoMemory, Seq, SourceId, SystemId, Vid, VidPlan,
+};
 use std::alloc::Global;
 use std::fmt::Debug;
 use std::process::Abort;
@@ -122,6 +124,7 @@ fn config_of_member(alloc: Global, last: u8) -> Result<BridgeConfig, NoMemory>
         port: 1,
         isid: Isid { value: 100 },
         vid,
+        mode: Mode::Both,
     })?;
     let lives = first_life(alloc)?;
     let mut config = one_port!(last, vids, metrics, attached, lives);

@@ -13,6 +13,8 @@ mod fragments;
 #[cfg(test)]
 mod lives;
 #[cfg(test)]
+mod modes;
+#[cfg(test)]
 mod plain;
 #[cfg(test)]
 mod rows;

@@ -10,7 +10,7 @@ use adjacency::AdjState;
 use bridge_api::{Bridge, BridgeConfig, first_life};
 use lsdb::{DbRow, Version};
 use spb_types::{
-    Attachment, BridgeId, Isid, LspId, Mac, NoMemory, PortSet, Seq, SourceId, SystemId, Vid,
+    Attachment, BridgeId, Isid, LspId, Mac, Mode, NoMemory, PortSet, Seq, SourceId, SystemId, Vid,
     VidPlan,
 };
 use std::alloc::Global;
@@ -108,6 +108,7 @@ fn service(number: u16) -> Attachment
             value: u32::from(number),
         },
         vid: VID,
+        mode: Mode::Both,
     }
 }
 

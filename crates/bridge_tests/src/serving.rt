@@ -10,7 +10,9 @@ use crate::fixtures::{Made, one_port};
 use bridge_api::{Bridge, BridgeConfig, Outbox};
 use flooding::OWN_NUMBERS;
 use lsdb::Version;
-use spb_types::{Attachment, BridgeId, Isid, Mac, NoMemory, Seq, SourceId, SystemId, Vid, VidPlan};
+use spb_types::{
+    Attachment, BridgeId, Isid, Mac, Mode, NoMemory, Seq, SourceId, SystemId, Vid, VidPlan,
+};
 use std::alloc::Global;
 use std::process::Abort;
 
@@ -37,6 +39,7 @@ fn service(base: u32, port: u16) -> Attachment
             value: base + u32::from(port),
         },
         vid: VID,
+        mode: Mode::Both,
     }
 }
 
@@ -106,7 +109,7 @@ fn config(alloc: Global, served: Served) -> Result<BridgeConfig, NoMemory>
 }
 
 /// Makes a blank bridge A with so many customer ports, with carrier at the port 1.
-fn make<B: Bridge>(alloc: Global, bridge: &mut B, count: u16) -> Result<(), NoMemory>
+pub(crate) fn make<B: Bridge>(alloc: Global, bridge: &mut B, count: u16) -> Result<(), NoMemory>
     requires blank { (B.shown bridge.old).blank ≡ true }
     requires few { count ≤ 960 }
     ensures made { OnOk result ((B.shown bridge.new).blank ≡ false) }
@@ -180,7 +183,7 @@ fn attached_next<B: Bridge>(bridge: &mut B, count: u16) -> Result<(), NoMemory>
     ensures serving { OnOk result (IsServing (count + 1) (B.shown bridge.new).view) }
 {
     let next = service(0, count + 1);
-    bridge.attach(next.port, next.isid, next.vid)
+    bridge.attach(next.port, next.isid, next.vid, next.mode)
 }
 
 /// The last customer port is detached.

@@ -198,7 +198,7 @@ fn a_check_has_at_most_96_entries(rt: HostRuntime) {
 fn padded(rt: &impl Abort, alloc: Global, line: &[u8], len: usize) -> Vec<u8> {
     let mut padded = Vec::new(alloc);
     padded.extend_from_slice(line).expect(rt, "out of memory");
-    while padded.len() < len {
+    for _ in line.len()..len {
         padded.push(b' ').expect(rt, "out of memory");
     }
     padded

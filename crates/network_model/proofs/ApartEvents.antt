@@ -6,6 +6,7 @@ use Rattle.spb_types.specs.Places.{changed_at}
 use Rattle.spb_types.specs.declared.link.Dir.{Dir}
 use Rattle.spb_types.specs.declared.link.Side.{Side}
 use Rattle.spb_types.specs.declared.service.Isid.{Isid}
+use Rattle.spb_types.specs.declared.service.Mode.{Mode}
 use Rattle.spb_types.specs.declared.service.Vid.{Vid}
 use Rattle.bridge_api.specs.Config.{IsMetric}
 use Rattle.bridge_api.specs.Services.{attachment_of}
@@ -85,16 +86,16 @@ module _ (Entered : Isid → List ℕ → Type 0) (Left : Out → Type 0) where
 
   -- ---- a customer port is attached, or detached
 
-  found_separate : (s : State) (i port isid : ℕ) (o : Option Vid) → vid_of_isid s.world.services isid ≡ o → attach_refusal s.world i port isid ≡ None → IsSoundState s → IsSeparate Entered Left s → IsSeparate Entered Left (attached_in_found s i port isid o)
-  found_separate s i port isid None found none sound separate = separate
-  found_separate s i port isid (Some vid) found none sound separate =
-      let a = attachment_of port (record { value = isid }) vid in
+  found_separate : (s : State) (i port isid : ℕ) (mode : Mode) (o : Option Vid) → vid_of_isid s.world.services isid ≡ o → attach_refusal s.world i port isid ≡ None → IsSoundState s → IsSeparate Entered Left s → IsSeparate Entered Left (attached_in_found s i port isid mode o)
+  found_separate s i port isid mode None found none sound separate = separate
+  found_separate s i port isid mode (Some vid) found none sound separate =
+      let a = attachment_of port (record { value = isid }) vid mode in
       let t : State = record s { world = with_attachment_at s.world i a } in
-      separate_stepped Entered Left t i (comes.attach a) (brought_none Entered Left t i (comes.attach a) (can_attach s i port isid vid sound none found) (λ v other f brings. brings) (λ v. refl)) (separate_with_world Entered Left t.world s separate)
+      separate_stepped Entered Left t i (comes.attach a) (brought_none Entered Left t i (comes.attach a) (can_attach s i port isid vid mode sound none found) (λ v other f brings. brings) (λ v. refl)) (separate_with_world Entered Left t.world s separate)
 
-  pub separate_attached : (s : State) (i port isid : ℕ) → attach_refusal s.world i port isid ≡ None → IsSoundState s → IsSeparate Entered Left s → IsSeparate Entered Left (port_attached s i port isid)
+  pub separate_attached : (s : State) (i port isid : ℕ) (mode : Mode) → attach_refusal s.world i port isid ≡ None → IsSoundState s → IsSeparate Entered Left s → IsSeparate Entered Left (port_attached s i port isid mode)
   unfolding port_attached
-  separate_attached s i port isid none sound separate = found_separate s i port isid (vid_of_isid s.world.services isid) refl none sound separate
+  separate_attached s i port isid mode none sound separate = found_separate s i port isid mode (vid_of_isid s.world.services isid) refl none sound separate
 
   pub separate_detached : (s : State) (i port : ℕ) → detach_refusal s.world i port ≡ None → IsSoundState s → IsSeparate Entered Left s → IsSeparate Entered Left (port_detached s i port)
   unfolding port_detached

@@ -10,6 +10,7 @@ use Rattle.spb_types.specs.declared.link.Side.{Side}
 use Rattle.spb_types.specs.declared.tables.Path.{Path}
 use Rattle.spb_types.specs.declared.service.Attachment.{Attachment}
 use Rattle.spb_types.specs.declared.service.Isid.{Isid}
+use Rattle.spb_types.specs.declared.service.Mode.{Mode}
 use Rattle.spb_types.specs.declared.service.SourceId.{SourceId}
 use Rattle.spb_types.specs.declared.service.Vid.{Vid}
 use Rattle.forwarding.specs.Laws.{IsAttachedTo}
@@ -168,13 +169,13 @@ module _ (Entered : Isid → List ℕ → Type 0) (s : State) (sound : IsSoundSt
 
   -- ---- a customer port, and a customer's frame
 
-  attach_found : (port isid : ℕ) (o : Option ℕ) → refusal_at_found (λ i. attach_refusal s.world i port isid) o ≡ None → IsSeparate Entered Left (at_place (λ t i. port_attached t i port isid) s o)
-  attach_found port isid None accepted = separate
-  attach_found port isid (Some i) accepted = separate_attached Entered Left s i port isid accepted sound separate
+  attach_found : (port isid : ℕ) (mode : Mode) (o : Option ℕ) → refusal_at_found (λ i. attach_refusal s.world i port isid) o ≡ None → IsSeparate Entered Left (at_place (λ t i. port_attached t i port isid mode) s o)
+  attach_found port isid mode None accepted = separate
+  attach_found port isid mode (Some i) accepted = separate_attached Entered Left s i port isid mode accepted sound separate
 
-  attach_separate : (name : List ℕ) (port isid : ℕ) → named_attach_refusal s.world name port isid ≡ None → IsSeparate Entered Left (at_bridge (λ t i. port_attached t i port isid) s name)
+  attach_separate : (name : List ℕ) (port isid : ℕ) (mode : Mode) → named_attach_refusal s.world name port isid ≡ None → IsSeparate Entered Left (at_bridge (λ t i. port_attached t i port isid mode) s name)
   unfolding named_attach_refusal at_bridge
-  attach_separate name port isid accepted = attach_found port isid (place_of name s.world.bridges) accepted
+  attach_separate name port isid mode accepted = attach_found port isid mode (place_of name s.world.bridges) accepted
 
   detach_found : (port : ℕ) (o : Option ℕ) → refusal_at_found (λ i. detach_refusal s.world i port) o ≡ None → IsSeparate Entered Left (at_place (λ t i. port_detached t i port) s o)
   detach_found port None accepted = separate
@@ -218,7 +219,7 @@ module _ (Entered : Isid → List ℕ → Type 0) (s : State) (sound : IsSoundSt
   played_separate (command.Bridge name priority system source ports) accepted enters = bridge_separate name priority system source ports accepted
   played_separate (command.Link name a port_a b port_b cost) accepted enters = link_separate name a b port_a port_b cost accepted
   played_separate (command.Isid isid vid) accepted enters = service_separate isid vid
-  played_separate (command.Attach name port isid) accepted enters = attach_separate name port isid accepted
+  played_separate (command.Attach name port isid mode) accepted enters = attach_separate name port isid mode accepted
   played_separate (command.Detach name port) accepted enters = detach_separate name port accepted
   played_separate (command.Metric name side m) accepted enters = metric_separate name side m accepted
   played_separate (command.Down name) accepted enters = at_link_separate switched_off name (λ k. separate_switched_off Entered Left s k separate)

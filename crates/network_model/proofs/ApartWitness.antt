@@ -5,6 +5,7 @@ use Rattle.scenario.specs.declared.command.Command.{Command}
 use Rattle.scenario.specs.declared.command.Command.TheVariants as command
 use Rattle.spb_types.specs.declared.address.Mac.{Mac}
 use Rattle.spb_types.specs.declared.service.Attachment.{Attachment}
+use Rattle.spb_types.specs.declared.service.Mode.TheVariants.{Both}
 use Rattle.forwarding.specs.Tenant.{of_customer}
 use Rattle.bridge_api.specs.View.{BridgeView}
 use Rattle.bridge_api.specs.Services.{attachment_of}
@@ -49,8 +50,8 @@ declarations =
     command.Vid 100 1
     ∷ command.Bridge name 32768 system (source 1) 1
     ∷ command.Isid 7 100
-    ∷ command.Attach name 1 7
-    ∷ command.Attach name 2 7
+    ∷ command.Attach name 1 7 Both
+    ∷ command.Attach name 2 7 Both
     ∷ []
 
 abbrev pub start : State
@@ -60,7 +61,7 @@ abbrev pub enters : Command
 enters = command.Frame name 1 bytes
 
 abbrev pub at_port : ℕ → Attachment
-at_port port = attachment_of port (record { value = 7 }) (record { value = 100 })
+at_port port = attachment_of port (record { value = 7 }) (record { value = 100 }) Both
 
 abbrev attached : List Attachment
 attached = at_port 1 ∷ at_port 2 ∷ []

@@ -1,6 +1,7 @@
 -- A customer port that is attached or detached takes the numbers of its bridge one further.
 use Rattle.std.proofs.Common.{◌≡◌, ◌<◌, ◌+◌, ℕ, length, Option, Some, None, refl, arith}
 use Rattle.spb_types.specs.declared.service.Attachment.{Attachment}
+use Rattle.spb_types.specs.declared.service.Mode.{Mode}
 use Rattle.spb_types.specs.declared.service.Vid.{Vid}
 use Rattle.flooding.specs.Own.{last_number}
 use Rattle.bridge_api.specs.Services.{attachment_of}
@@ -38,14 +39,14 @@ with_port_counted s n i a new can core counted low =
     attach_counted (record s { world = with_attachment_at s.world i a }) n i a can
     (same_counted (λ j. n) s (with_attachment_at s.world i a) (core_with_attachment s i a new core) refl (λ j. refl) (tracked_from n s core counted)) low
 
-found_counted : (s : State) (n i port isid : ℕ) (o : Option Vid) → vid_of_isid s.world.services isid ≡ o → i < length s.world.bridges → attach_refusal s.world i port isid ≡ None → IsSoundState s → IsCountedBy n s → n < last_number → IsCountedBy (n + 2) (attached_in_found s i port isid o)
-found_counted s n i port isid None found within none sound counted low = counted_more n (n + 2) s (omega arith) counted
-found_counted s n i port isid (Some vid) found within none sound counted low =
-    with_port_counted s n i (attachment_of port (record { value = isid }) vid) (new_attachment s i port isid vid within none found) (can_attach s i port isid vid sound none found) (core_of s sound) counted low
+found_counted : (s : State) (n i port isid : ℕ) (mode : Mode) (o : Option Vid) → vid_of_isid s.world.services isid ≡ o → i < length s.world.bridges → attach_refusal s.world i port isid ≡ None → IsSoundState s → IsCountedBy n s → n < last_number → IsCountedBy (n + 2) (attached_in_found s i port isid mode o)
+found_counted s n i port isid mode None found within none sound counted low = counted_more n (n + 2) s (omega arith) counted
+found_counted s n i port isid mode (Some vid) found within none sound counted low =
+    with_port_counted s n i (attachment_of port (record { value = isid }) vid mode) (new_attachment s i port isid vid mode within none found) (can_attach s i port isid vid mode sound none found) (core_of s sound) counted low
 
-pub Counted-attached : (s : State) (n i port isid : ℕ) → i < length s.world.bridges → attach_refusal s.world i port isid ≡ None → IsSoundState s → IsCountedBy n s → n < last_number → IsCountedBy (n + 2) (port_attached s i port isid)
+pub Counted-attached : (s : State) (n i port isid : ℕ) (mode : Mode) → i < length s.world.bridges → attach_refusal s.world i port isid ≡ None → IsSoundState s → IsCountedBy n s → n < last_number → IsCountedBy (n + 2) (port_attached s i port isid mode)
 unfolding port_attached
-Counted-attached s n i port isid within none sound counted low = found_counted s n i port isid (vid_of_isid s.world.services isid) refl within none sound counted low
+Counted-attached s n i port isid mode within none sound counted low = found_counted s n i port isid mode (vid_of_isid s.world.services isid) refl within none sound counted low
 
 pub Counted-detached : (s : State) (n i port : ℕ) → detach_refusal s.world i port ≡ None → IsSoundState s → IsCountedBy n s → n < last_number → IsCountedBy (n + 2) (port_detached s i port)
 unfolding port_detached without_attachment_at

@@ -2,6 +2,7 @@
 use Rattle.std.proofs.Common.{◌≡◌, ◌≤◌, ◌<◌, ◌+◌, ◌*◌, ℕ, List, [], ◌∷◌, ◌++◌, length, refl, ap, ◌∙◌, Option, Some, None, arith}
 use Rattle.std.proofs.Math.Nat.{min-eq_left}
 use Rattle.spb_types.specs.declared.address.Mac.{Mac}
+use Rattle.spb_types.specs.declared.service.Mode.{Mode}
 use Rattle.spb_types.specs.declared.service.SourceId.{SourceId}
 use Rattle.spb_types.specs.declared.limits.TheConstants.{MOST_ROUNDS}
 use Rattle.spb_types.specs.declared.link.Dir.{Dir}
@@ -54,7 +55,7 @@ events_keep_counted = record {
   lose = λ k dir place s n sound counted low. Counted-lost s n k dir place counted;
   double = λ k dir place s n sound counted low. Counted-doubled s n k dir place counted;
   metric = λ k side m is s n sound counted low. Counted-metric s n k side m is (core_of s sound) counted (omega (arith, low));
-  attach = λ i port isid s n may sound counted low. Counted-attached s n i port isid may.0 may.1 sound counted (omega (arith, low));
+  attach = λ i port isid mode s n may sound counted low. Counted-attached s n i port isid mode may.0 may.1 sound counted (omega (arith, low));
   detach = λ i port s n may sound counted low. Counted-detached s n i port may sound counted (omega (arith, low));
   enter = λ i port bytes s n may sound counted low. Counted-entered s n i port bytes may sound counted (omega (arith, low));
   down = λ k s n sound counted low. Counted-off s n k sound counted (omega (arith, low));
@@ -232,13 +233,13 @@ module _ (s : State) (sound : IsSoundState s) (counted : IsCounted s) (room : s.
   metric_played : (name : List ℕ) (side : Side) (m k : ℕ) → metric_refusal s.world name m ≡ None → place_of name s.world.links ≡ Some k → IsPlayed s (with_metric_changed s k side m)
   metric_played name side m k none at = two_more s (with_metric_changed s k side m) counted (counts-metric s k side m) (Counted-metric s (allowance_of s) k side m (metric_refusal_none s.world name m k at none) (core_of s sound) counted.by lower)
 
-  attach_found : (name : List ℕ) (port isid : ℕ) (o : Option ℕ) → place_of name s.world.bridges ≡ o → refusal_at_found (λ i. attach_refusal s.world i port isid) o ≡ None → IsPlayed s (at_place (λ t i. port_attached t i port isid) s o)
-  attach_found name port isid None at none = unchanged s counted
-  attach_found name port isid (Some i) at none = two_more s (port_attached s i port isid) counted (counts-attached s i port isid) (Counted-attached s (allowance_of s) i port isid (place_within name s.world.bridges i at) none sound counted.by lower)
+  attach_found : (name : List ℕ) (port isid : ℕ) (mode : Mode) (o : Option ℕ) → place_of name s.world.bridges ≡ o → refusal_at_found (λ i. attach_refusal s.world i port isid) o ≡ None → IsPlayed s (at_place (λ t i. port_attached t i port isid mode) s o)
+  attach_found name port isid mode None at none = unchanged s counted
+  attach_found name port isid mode (Some i) at none = two_more s (port_attached s i port isid mode) counted (counts-attached s i port isid mode) (Counted-attached s (allowance_of s) i port isid mode (place_within name s.world.bridges i at) none sound counted.by lower)
 
-  attach_played : (name : List ℕ) (port isid : ℕ) → named_attach_refusal s.world name port isid ≡ None → IsPlayed s (at_bridge (λ t i. port_attached t i port isid) s name)
+  attach_played : (name : List ℕ) (port isid : ℕ) (mode : Mode) → named_attach_refusal s.world name port isid ≡ None → IsPlayed s (at_bridge (λ t i. port_attached t i port isid mode) s name)
   unfolding named_attach_refusal at_bridge
-  attach_played name port isid none = attach_found name port isid (place_of name s.world.bridges) refl none
+  attach_played name port isid mode none = attach_found name port isid mode (place_of name s.world.bridges) refl none
 
   detach_found : (port : ℕ) (o : Option ℕ) → refusal_at_found (λ i. detach_refusal s.world i port) o ≡ None → IsPlayed s (at_place (λ t i. port_detached t i port) s o)
   detach_found port None none = unchanged s counted
@@ -262,7 +263,7 @@ module _ (s : State) (sound : IsSoundState s) (counted : IsCounted s) (room : s.
       two_more s (declared s name (bridge_of priority system source ports)) counted (counts-declared s name (bridge_of priority system source ports)) (bridge_counted s (allowance_of s) name priority system source ports sound counted.by none)
   command_played (command.Link name a port_a b port_b cost) none = named_played s name a b port_a port_b cost sound counted low none
   command_played (command.Isid isid vid) none = isid_played s isid vid counted
-  command_played (command.Attach name port isid) none = attach_played name port isid none
+  command_played (command.Attach name port isid mode) none = attach_played name port isid mode none
   command_played (command.Detach name port) none = detach_played name port none
   command_played (command.Frame name port bytes) none = enter_played name port bytes none
   command_played (command.Metric name on m) none = link_played (λ t k. with_metric_changed t k on m) s name counted (λ k at. metric_played name on m k none at)

@@ -7,6 +7,7 @@ use Rattle.spb_types.specs.declared.link.Dir.{Dir}
 use Rattle.spb_types.specs.declared.link.Dir.TheVariants.{Ab, Ba}
 use Rattle.spb_types.specs.declared.link.Side.{Side}
 use Rattle.spb_types.specs.declared.service.Attachment.{Attachment}
+use Rattle.spb_types.specs.declared.service.Mode.{Mode}
 use Rattle.spb_types.specs.declared.service.Vid.{Vid}
 use Rattle.bridge_api.specs.Services.{attachment_of}
 use Rattle.bridge_api.specs.Step.{Input}
@@ -65,15 +66,15 @@ pub counts-metric : (s : State) (k : ℕ) (side : Side) (m : ℕ) → counts (wi
 unfolding with_metric_changed
 counts-metric s k side m = let t : State = record s { world = with_end_metric side m s.world k } in metric_on t side (slice_get (links_of t) k)
 
-attached_found : (s : State) (i port isid : ℕ) (o : Option Vid) → counts (attached_in_found s i port isid o) ≡ counts s
-attached_found s i port isid None = refl
-attached_found s i port isid (Some vid) =
-    let a : Attachment = attachment_of port (record { value = isid }) vid in
+attached_found : (s : State) (i port isid : ℕ) (mode : Mode) (o : Option Vid) → counts (attached_in_found s i port isid mode o) ≡ counts s
+attached_found s i port isid mode None = refl
+attached_found s i port isid mode (Some vid) =
+    let a : Attachment = attachment_of port (record { value = isid }) vid mode in
     counts-stepped (comes.attach a) (record s { world = with_attachment_at s.world i a }) i
 
-pub counts-attached : (s : State) (i port isid : ℕ) → counts (port_attached s i port isid) ≡ counts s
+pub counts-attached : (s : State) (i port isid : ℕ) (mode : Mode) → counts (port_attached s i port isid mode) ≡ counts s
 unfolding port_attached
-counts-attached s i port isid = attached_found s i port isid (vid_of_isid s.world.services isid)
+counts-attached s i port isid mode = attached_found s i port isid mode (vid_of_isid s.world.services isid)
 
 pub counts-detached : (s : State) (i port : ℕ) → counts (port_detached s i port) ≡ counts s
 unfolding port_detached

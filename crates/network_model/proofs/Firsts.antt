@@ -3,17 +3,18 @@ use Rattle.std.proofs.Common.{◌≡◌, ℕ, ◌+◌, ◌<◌, ◌≤◌, Bool,
 use Rattle.std.specs.Prelude.{Decides}
 use Rattle.std.proofs.lemmas.Bool.Decides.{Decides-like}
 use Rattle.spb_types.specs.declared.address.Mac.{Mac}
+use Rattle.spb_types.specs.declared.service.Mode.{Mode}
 use Rattle.spb_types.specs.declared.service.SourceId.{SourceId}
 use Rattle.scenario.specs.declared.command.Command.{Command}
 use Rattle.scenario.specs.declared.command.Command.TheVariants as command
 use Rattle.spb_types.specs.declared.link.Dir.{Dir}
 use Rattle.spb_types.specs.declared.link.Side.{Side}
 use Rattle.spb_world.specs.declared.reason.Reason.{Reason}
-use Rattle.spb_world.specs.declared.reason.Reason.TheVariants.{NoSuchName, NameTaken, IdTaken, PortUse, Range, TooMany, AlreadyLinked, AlreadyUp, AlreadyDown, Attached, NotAttached, NoFrame, RackSpent, TooLate}
+use Rattle.spb_world.specs.declared.reason.Reason.TheVariants.{NoSuchName, NameTaken, IdTaken, PortUse, Range, TooMany, AlreadyLinked, AlreadyUp, AlreadyDown, Attached, NotAttached, NoFrame, RackSpent, TooLate, ReceiveOnly}
 use Rattle.spb_world.specs.Reason.{reason_number, reason_unless}
 use Rattle.spb_world.specs.World.{World, things_of, place_of, attached_at}
 use Rattle.spb_world.specs.Services.{is_new_isid, is_isid_range, has_service_room, isid_refusal}
-use Rattle.spb_world.specs.Attaching.{is_declared_isid, is_customer_port, is_customer_frame, is_attached, has_isid_room, attach_refusal, detach_refusal, entry_refusal}
+use Rattle.spb_world.specs.Attaching.{is_declared_isid, is_customer_port, is_customer_frame, is_attached, is_sending, has_isid_room, attach_refusal, detach_refusal, entry_refusal}
 use Rattle.spb_world.specs.Declaring.{has_vid, is_new_vid, is_vid_range, has_vid_room, is_before_bridges, is_new_name, is_new_system, is_new_source, is_bridge_range, has_bridge_room, is_free_port, is_link_range, has_link_room, is_unlinked, vid_refusal, bridge_refusal, link_refusal}
 use Rattle.network_model.specs.State.{State, lane_at, kind_at}
 use Rattle.spb_world.specs.Links.{is_live}
@@ -23,7 +24,7 @@ use Rattle.network_model.specs.Refusing.{box_for, asked_refusal, declared_refusa
 use Rattle.spb_world.specs.Naming.{link_refusal_at_found, named_link_refusal, unnamed_refusal, refusal_at_found, down_refusal, up_refusal, metric_refusal, named_attach_refusal, named_detach_refusal, named_entry_refusal, are_declared, path_refusal}
 use Rattle.network_model.specs.Holding.{IsNamed, HoldsAt, LacksBoxAt, AsksUnknown, Holds, TheFirstReasonIsGiven}
 use Rattle.network_model.proofs.Chains.{chain_said, Said, lowest, refused_for_the_first}
-use Rattle.network_model.proofs.Tested.{true-is, false-is, fails, opposes, not-lt, not-le, named, known, unknown, at-is, both-at, taken_vid, wrong_vid, full_of_vids, late, undeclared_vid, undeclared, taken_isid, wrong_isid, full_of_services, undeclared_isid, wrong_port, wrong_entry, full_of_isids, taken_customer_port, free_customer_port, taken_name, taken_id, wrong_bridge, full_of_bridges, spent_rack, taken_port, wrong_metric, wrong_link, full_of_links, joined, wrong_count}
+use Rattle.network_model.proofs.Tested.{true-is, false-is, fails, opposes, not-lt, not-le, named, known, unknown, at-is, both-at, taken_vid, wrong_vid, full_of_vids, late, undeclared_vid, undeclared, taken_isid, wrong_isid, full_of_services, undeclared_isid, wrong_port, wrong_entry, full_of_isids, taken_customer_port, free_customer_port, mute_customer_port, taken_name, taken_id, wrong_bridge, full_of_bridges, spent_rack, taken_port, wrong_metric, wrong_link, full_of_links, joined, wrong_count}
 
 -- ---- what names a bridge
 
@@ -80,12 +81,12 @@ isid_said s isid vid =
     covers _ h = absurd h
 
 -- of a customer port, by the place that was found for the name
-attach_said_at_found : (s : State) (name : List ℕ) (port isid : ℕ) (o : Option ℕ) → place_of name s.world.bridges ≡ o → Said (Holds s (command.Attach name port isid)) (refusal_at_found (λ i. attach_refusal s.world i port isid) o)
+attach_said_at_found : (s : State) (name : List ℕ) (port isid : ℕ) (mode : Mode) (o : Option ℕ) → place_of name s.world.bridges ≡ o → Said (Holds s (command.Attach name port isid mode)) (refusal_at_found (λ i. attach_refusal s.world i port isid) o)
 unfolding attach_refusal
-attach_said_at_found s name port isid None at = (inl (unknown name s.world.bridges at), λ q h. lowest q)
-attach_said_at_found s name port isid (Some i) at =
+attach_said_at_found s name port isid mode None at = (inl (unknown name s.world.bridges at), λ q h. lowest q)
+attach_said_at_found s name port isid mode (Some i) at =
     let w : World = s.world in
-    chain_said (Holds s (command.Attach name port isid)) 0
+    chain_said (Holds s (command.Attach name port isid mode)) 0
     ((is_declared_isid w.services isid, NoSuchName)
     ∷ (is_customer_port port, Range)
     ∷ (has_isid_room (attached_at w i) isid, TooMany)
@@ -106,16 +107,16 @@ attach_said_at_found s name port isid (Some i) at =
     (omega arith, (omega arith, (omega arith, (omega arith, tt))))
     covers
   where
-    covers : (q : Reason) → Holds s (command.Attach name port isid) q → (q ≡ NoSuchName) ⊎ ((q ≡ Range) ⊎ ((q ≡ TooMany) ⊎ ((q ≡ Attached) ⊎ ⊥)))
+    covers : (q : Reason) → Holds s (command.Attach name port isid mode) q → (q ≡ NoSuchName) ⊎ ((q ≡ Range) ⊎ ((q ≡ TooMany) ⊎ ((q ≡ Attached) ⊎ ⊥)))
     covers NoSuchName h = inl refl
     covers Range h = inr (inl refl)
     covers TooMany h = inr (inr (inl refl))
     covers Attached h = inr (inr (inr (inl refl)))
     covers _ h = absurd h
 
-attach_said : (s : State) (name : List ℕ) (port isid : ℕ) → Said (Holds s (command.Attach name port isid)) (named_attach_refusal s.world name port isid)
+attach_said : (s : State) (name : List ℕ) (port isid : ℕ) (mode : Mode) → Said (Holds s (command.Attach name port isid mode)) (named_attach_refusal s.world name port isid)
 unfolding named_attach_refusal
-attach_said s name port isid = attach_said_at_found s name port isid (place_of name s.world.bridges) refl
+attach_said s name port isid mode = attach_said_at_found s name port isid mode (place_of name s.world.bridges) refl
 
 detach_said_at_found : (s : State) (name : List ℕ) (port : ℕ) (o : Option ℕ) → place_of name s.world.bridges ≡ o → Said (Holds s (command.Detach name port)) (refusal_at_found (λ i. detach_refusal s.world i port) o)
 unfolding detach_refusal
@@ -142,15 +143,27 @@ unfolding entry_refusal
 enter_said_at_found s name port bytes None at = (unknown name s.world.bridges at, λ q h. lowest q)
 enter_said_at_found s name port bytes (Some i) at =
     chain_said (Holds s (command.Frame name port bytes)) 0
-    ((is_customer_port port && is_customer_frame bytes, Range) ∷ (is_attached s.world.attached i port, NotAttached) ∷ [])
-    (wrong_entry port bytes, (at-is name s.world.bridges _ i _ at (free_customer_port s.world i port), tt))
-    (omega arith, (omega arith, tt))
+    ((is_customer_port port && is_customer_frame bytes, Range)
+    ∷ (is_attached s.world.attached i port, NotAttached)
+    ∷ (is_sending s.world.attached i port, ReceiveOnly)
+    ∷ []) (
+      wrong_entry port bytes,
+      (
+        at-is name s.world.bridges _ i _ at (free_customer_port s.world i port),
+        (
+          at-is name s.world.bridges _ i _ at (mute_customer_port s.world i port),
+          tt,
+        ),
+      ),
+    )
+    (omega arith, (omega arith, (omega arith, tt)))
     covers
   where
-    covers : (q : Reason) → Holds s (command.Frame name port bytes) q → (q ≡ Range) ⊎ ((q ≡ NotAttached) ⊎ ⊥)
+    covers : (q : Reason) → Holds s (command.Frame name port bytes) q → (q ≡ Range) ⊎ ((q ≡ NotAttached) ⊎ ((q ≡ ReceiveOnly) ⊎ ⊥))
     covers NoSuchName h = absurd (h (known name s.world.bridges i at))
     covers Range h = inl refl
     covers NotAttached h = inr (inl refl)
+    covers ReceiveOnly h = inr (inr (inl refl))
     covers _ h = absurd h
 
 enter_said : (s : State) (name : List ℕ) (port : ℕ) (bytes : List ℕ) → Said (Holds s (command.Frame name port bytes)) (named_entry_refusal s.world name port bytes)
@@ -340,7 +353,7 @@ said s (command.Vid vid ect) = vid_said s vid ect
 said s (command.Bridge name priority system source ports) = bridge_said s name priority system source ports
 said s (command.Link name a port_a b port_b cost) = link_said s name a b port_a port_b cost
 said s (command.Isid isid vid) = isid_said s isid vid
-said s (command.Attach name port isid) = attach_said s name port isid
+said s (command.Attach name port isid mode) = attach_said s name port isid mode
 said s (command.Detach name port) = detach_said s name port
 said s (command.Frame name port bytes) = enter_said s name port bytes
 said s (command.Metric name side m) = metric_said s name side m
@@ -369,6 +382,7 @@ said s c = asked (Holds s c) s.world (question_of c) (λ h. h) (λ h. h) (λ q. 
   | NoFrame ↦ λ h. absurd h
   | RackSpent ↦ λ h. absurd h
   | TooLate ↦ λ h. absurd h
+  | ReceiveOnly ↦ λ h. absurd h
 ])
 
 pub the_first_reason_is_given : TheFirstReasonIsGiven

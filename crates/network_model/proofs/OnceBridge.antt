@@ -27,7 +27,7 @@ use Rattle.forwarding.specs.declared.moved.Moved.{Moved}
 use Rattle.forwarding.specs.declared.step.Step.{Step}
 use Rattle.forwarding.specs.declared.step.Step.TheVariants as step
 use Rattle.forwarding.specs.declared.tenant.Tenant.{Tenant}
-use Rattle.forwarding.specs.Ports.{attachment_of, but_for, is_in, is_served, is_way, ports_in, ports_of}
+use Rattle.forwarding.specs.Ports.{attachment_of, but_for, is_in, is_served, is_way, ports_in, receiving_ports}
 use Rattle.forwarding.specs.Tenant.{Carried, after_customer, after_delivery, delivered_going, each_with, entered_by, entered_going, flooded, going_by, is_delivered, is_group, is_of_another, is_taken, left_of, nothing, of_backbone, relayed_at, step_of, to_of, way_on}
 use Rattle.bridge_api.specs.declared.port.BridgePort.{BridgePort}
 use Rattle.bridge_api.specs.View.{BridgeView, has_carrier_at, has_carrier_in, port_at, with_drops}
@@ -43,7 +43,7 @@ use Rattle.bridge_api.proofs.Octets.{AreSmall, bytes_small, octets_small, small_
 
 -- ---- where it enters
 
--- it goes everywhere: to the other ports of its service, and to the group address
+-- it goes everywhere: to the other receiving ports of its service, and to the group address
 module _ (v : BridgeView) (p : ℕ) (f : List ℕ) (a : Attachment) (at : attachment_of p v.attached ≡ Some a) (group : is_group (to_of f) ≡ true) where
   pub entry_floods : moved_by_entry p f v ≡ flooded (after_customer (tenant_of v) p f) (own_tables v) a f
   unfolding moved_by_entry
@@ -133,15 +133,15 @@ module _ (v : BridgeView) (q : ℕ) (bytes : List ℕ) (da sa : Mac) (vid : Vid)
         let parts = neither (is_in isid a && (a.vid.value == vid.value)) (is_served isid vid attached) none in
         (in_vid a each.0 parts.0, none_in attached each.1 parts.1)
 
-    everywhere : (t : Tenant) → delivered_going t carried (if is_group (to_of f) then Everywhere else going_by (place_in t.learned isid (to_of f))) ≡ each_with f (ports_of isid t.attached)
+    everywhere : (t : Tenant) → delivered_going t carried (if is_group (to_of f) then Everywhere else going_by (place_in t.learned isid (to_of f))) ≡ each_with f (receiving_ports isid t.attached)
     everywhere t = ap (λ (b : Bool). delivered_going t carried (if b then Everywhere else going_by (place_in t.learned isid (to_of f)))) customers
 
-    leaving : (b : Bool) → is_served isid vid v.attached ≡ b → (AllByRecursion (λ a. is_in isid a ≡ false) v.attached → ports_of isid v.attached ≡ []) → left_of (true && b) (tenant_of v) carried ≡ each_with f (ports_of isid v.attached)
+    leaving : (b : Bool) → is_served isid vid v.attached ≡ b → (AllByRecursion (λ a. is_in isid a ≡ false) v.attached → receiving_ports isid v.attached ≡ []) → left_of (true && b) (tenant_of v) carried ≡ each_with f (receiving_ports isid v.attached)
     leaving true served none = everywhere (after_delivery true (tenant_of v) carried)
     leaving false served none = sym (ap (each_with f) (none (none_in v.attached one served)))
 
-    -- and the customer's frame leaves at each port of the service
-    pub leaves_at_each : (AllByRecursion (λ a. is_in isid a ≡ false) v.attached → ports_of isid v.attached ≡ []) → (moved_by_receive q bytes v).left ≡ each_with f (ports_of isid v.attached)
+    -- and the customer's frame leaves at each port of the service that receives
+    pub leaves_at_each : (AllByRecursion (λ a. is_in isid a ≡ false) v.attached → receiving_ports isid v.attached ≡ []) → (moved_by_receive q bytes v).left ≡ each_with f (receiving_ports isid v.attached)
     leaves_at_each none =
         ap (λ (m : Moved). m.left) is_received
         ∙ (ap (λ (s : Step). left_of (is_taken (is_delivered s) (tenant_of v) carried) (tenant_of v) carried) spreads

@@ -15,8 +15,8 @@ use Rattle.spb_types.specs.declared.service.Attachment.{Attachment}
 use Rattle.spb_types.specs.declared.tables.Tables.{Tables}
 use Rattle.link_model.specs.Lane.{Frame}
 use Rattle.forwarding.specs.declared.moved.Moved.{Moved}
-use Rattle.forwarding.specs.Laws.{IsAttachedTo}
-use Rattle.forwarding.specs.Ports.{attachment_of, but_for, ports_in, ports_of}
+use Rattle.forwarding.specs.Ports.{attachment_of, but_for, ports_in, receiving_ports}
+use Rattle.forwarding.specs.Receiving.{IsReceivingTo}
 use Rattle.forwarding.specs.Tenant.{each_with}
 use Rattle.bridge_api.specs.View.{BridgeView}
 use Rattle.bridge_api.specs.Customers.{after_entry}
@@ -38,7 +38,7 @@ use Rattle.network_model.proofs.SentLanes.{stepped_once, stepped_here, stepped_b
 use Rattle.network_model.proofs.SoundLane.{some-is}
 use Rattle.network_model.proofs.Spoken.{place_low}
 use Rattle.spb_world.proofs.WorldLemmas.{ports_at-le}
-use Rattle.network_model.proofs.OnceLists.{at_each, but_for_all, other_leaves_once, ports_attached}
+use Rattle.network_model.proofs.OnceLists.{at_each, but_for_all, other_leaves_once, ports_receive}
 use Rattle.network_model.proofs.OnceBridge.{entry_floods, entry_learns, found_port}
 use Rattle.network_model.proofs.OnceOuts.{counted_elsewhere, counted_here, each_out, named_at, names_apart, one_name}
 use Rattle.network_model.proofs.OnceStep.{IsJourney, ends_apart, gone, near_high, near_low, not_same, sent_lane, whole}
@@ -89,10 +89,10 @@ module _ (s : State) (b p : ℕ) (f : List ℕ) (v : BridgeView) (a : Attachment
       ap (λ (m : Moved). m.wire) (entry_floods v p f a found is.customers)
       ∙ ap (λ (tables : Tables). each_with F (ports_in (group_in tables.group a.vid j.to))) (is.tables b v at)
 
-  leaves : left_by x v ≡ each_with f (but_for p (ports_of a.isid (attached_at w b)))
+  leaves : left_by x v ≡ each_with f (but_for p (receiving_ports a.isid (attached_at w b)))
   leaves =
       ap (λ (m : Moved). m.left) (entry_floods v p f a found is.customers)
-      ∙ (λ i. each_with f (but_for (port_is i) (ports_of a.isid (attached i))))
+      ∙ (λ i. each_with f (but_for (port_is i) (receiving_ports a.isid (attached i))))
 
   abbrev served : ℕ → Bool
   served = served_by b
@@ -152,7 +152,7 @@ module _ (s : State) (b p : ℕ) (f : List ℕ) (v : BridgeView) (a : Attachment
   named = (named_at w b (place_low s b v sound at)).1
 
   abbrev ports : List ℕ
-  ports = but_for p (ports_of a.isid (attached_at w b))
+  ports = but_for p (receiving_ports a.isid (attached_at w b))
 
   abbrev new : List Out
   new = outs_at (Some name) (each_with f ports)
@@ -163,9 +163,9 @@ module _ (s : State) (b p : ℕ) (f : List ℕ) (v : BridgeView) (a : Attachment
   right : AllByRecursion (IsRight w b p f) t.outs
   right =
       subst (AllByRecursion (IsRight w b p f)) (sym left_is)
-      (each_out (λ q. IsAttachedTo (attached_at w b) q a.isid × (q ≢ p)) (IsRight w b p f) name f ports here (but_for_all (λ q. IsAttachedTo (attached_at w b) q a.isid) p (ports_of a.isid (attached_at w b)) (ports_attached a.isid (attached_at w b))))
+      (each_out (λ q. IsReceivingTo (attached_at w b) q a.isid × (q ≢ p)) (IsRight w b p f) name f ports here (but_for_all (λ q. IsReceivingTo (attached_at w b) q a.isid) p (receiving_ports a.isid (attached_at w b)) (ports_receive a.isid (attached_at w b))))
     where
-      here : (q : ℕ) → IsAttachedTo (attached_at w b) q a.isid × (q ≢ p) → IsRight w b p f (record { bridge = name; port = q; frame = f })
+      here : (q : ℕ) → IsReceivingTo (attached_at w b) q a.isid × (q ≢ p) → IsRight w b p f (record { bridge = name; port = q; frame = f })
       here q both = record {
         place = b;
         named = place_named w b name sound.distinct.bridges named;
@@ -177,7 +177,7 @@ module _ (s : State) (b p : ℕ) (f : List ℕ) (v : BridgeView) (a : Attachment
   once c q n at_n e receives out =
       let same : c ≡ b = eqb-true c b e in
       let its : n ≡ name = one_name w b n name (ap (slice_get (names_of w.bridges)) (sym same) ∙ at_n) named in
-      let here : IsAttachedTo (attached_at w b) q a.isid = subst (λ (i : ℕ). IsAttachedTo (attached_at w i) q a.isid) same receives in
+      let here : IsReceivingTo (attached_at w b) q a.isid = subst (λ (i : ℕ). IsReceivingTo (attached_at w i) q a.isid) same receives in
       (λ i. count_by (left_at (its i) q) (left_is i))
       ∙ (counted_here name q f ports ∙ other_leaves_once a.isid (attached_at w b) p q (λ port. out (same, port)) here)
 

@@ -113,7 +113,7 @@ module _ (start : State) (j : Journey) (is : IsJourney start j) where
   command_stays s before (command.Bridge name priority system source ports) on sound none accepted way = absurd (false≢true on)
   command_stays s before (command.Link name a port_a b port_b cost) on sound none accepted way = absurd (false≢true on)
   command_stays s before (command.Isid isid vid) on sound none accepted way = absurd (false≢true on)
-  command_stays s before (command.Attach name port isid) on sound none accepted way = absurd (false≢true on)
+  command_stays s before (command.Attach name port isid mode) on sound none accepted way = absurd (false≢true on)
   command_stays s before (command.Detach name port) on sound none accepted way = absurd (false≢true on)
   command_stays s before (command.Metric name side m) on sound none accepted way = absurd (false≢true on)
   command_stays s before (command.Down name) on sound none accepted way = absurd (false≢true on)

@@ -1,14 +1,15 @@
 -- A group frame that enters a network at rest leaves where it has to, once.
-use Rattle.std.proofs.Common.{append-nil, ◌≡◌, ◌<◌, ℕ, Bool, true, false, cond, eqb, eqb-true, eq-eqb, inl, inr, List, [], ◌∷◌, ◌++◌, length, refl, sym, ap, ◌∙◌, subst, Option, Some, None, slice_get, arith}
+use Rattle.std.proofs.Common.{append-nil, ◌≡◌, ◌<◌, ℕ, Bool, true, cond, eqb-true, eq-eqb, inl, inr, List, [], ◌∷◌, ◌++◌, length, refl, sym, ap, ◌∙◌, subst, Some, None, slice_get, arith}
 use Rattle.std.specs.Prelude.{nat_eq, ◌==◌}
 use Rattle.std.specs.List.{AllByRecursion, list_any}
-use Rattle.std.proofs.lemmas.Bool.{false≢true}
+use Rattle.std.proofs.lemmas.Bool.{ne_eqb}
 use Rattle.scenario.specs.declared.command.Command.{Command}
 use Rattle.scenario.specs.declared.command.Command.TheVariants as command
+use Rattle.spb_types.specs.Service.{sends}
 use Rattle.spb_types.specs.declared.service.Attachment.{Attachment}
 use Rattle.spb_types.specs.declared.service.Vid.{Vid}
 use Rattle.spb_types.specs.declared.service.VidPlan.{VidPlan}
-use Rattle.spb_content.proofs.Members.{Has, contains_from_has, has_from_contains}
+use Rattle.spb_content.proofs.Members.{Has, all_has, contains_from_has, has_from_contains}
 use Rattle.forwarding.specs.Laws.{IsAttachedTo}
 use Rattle.forwarding.specs.Placed.{AreAttachedOnce}
 use Rattle.forwarding.specs.Ports.{attachment_of, is_in}
@@ -17,7 +18,7 @@ use Rattle.bridge_api.specs.View.{BridgeView}
 use Rattle.bridge_api.specs.Config.{ArePairwise, AgreesWith, IsAttachment, vids_of}
 use Rattle.bridge_api.specs.Customers.{IsCustomerFrame}
 use Rattle.bridge_api.specs.Laws.{IsSoundView}
-use Rattle.bridge_api.specs.Services.{IsAttachedPort}
+use Rattle.bridge_api.specs.Services.{IsSendingPort}
 use Rattle.bridge_api.specs.Step.{customer}
 use Rattle.network_model.specs.declared.answer.Out.{Out}
 use Rattle.spb_world.specs.World.{attached_at, place_of, vid_of_isid}
@@ -54,27 +55,19 @@ use Rattle.network_model.proofs.OnceTree.{IsAttachedThere, IsPlanned, attached_t
 
 -- ---- the port where it enters
 
-none_found : (p : ℕ) (xs : List Attachment) (a : Attachment) → Has a xs → a.port ≡ p → attachment_of p xs ≡ None → ⊥
-none_found p [] a h same none = h
-none_found p (x ∷ xs) a h same none = by (eqb x.port p) refl h none (λ later found. none_found p xs a later same found)
-  where
-    by : (b : Bool) → eqb x.port p ≡ b → Has a (x ∷ xs) → cond b (Some x) (attachment_of p xs) ≡ None → (Has a xs → attachment_of p xs ≡ None → ⊥) → ⊥
-    by true e h none more = cc
-    by false e (inl here) none more = false≢true (sym e ∙ eq-eqb x.port p (ap (λ (y : Attachment). y.port) (sym here) ∙ same))
-    by false e (inr later) none more = more later none
-
-is_found : (p : ℕ) (xs : List Attachment) (a : Attachment) → Has a xs → a.port ≡ p → (c : Attachment) × (attachment_of p xs ≡ Some c)
-is_found p xs a h same = by (attachment_of p xs) refl
-  where
-    by : (o : Option Attachment) → attachment_of p xs ≡ o → (c : Attachment) × (attachment_of p xs ≡ Some c)
-    by None none = absurd (none_found p xs a h same none)
-    by (Some c) found = (c, found)
+-- no two ports are attached alike, so what is attached there is found
+is_found : (p : ℕ) (xs : List Attachment) (a : Attachment) → ArePairwise AgreesWith xs → Has a xs → a.port ≡ p → attachment_of p xs ≡ Some a
+is_found p [] a apart h same = absurd h
+is_found p (x ∷ xs) a apart (inl here) same = ap (λ (b : Bool). cond b (Some x) (attachment_of p xs)) (eq-eqb x.port p (ap (λ (y : Attachment). y.port) (sym here) ∙ same)) ∙ ap Some (sym here)
+is_found p (x ∷ xs) a apart (inr later) same =
+    ap (λ (b : Bool). cond b (Some x) (attachment_of p xs)) (ne_eqb x.port p (λ e. (all_has (AgreesWith x) a xs apart.0 later).ports (e ∙ sym same)))
+    ∙ is_found p xs a apart.1 later same
 
 weaker_all : {X : Type 0} (P Q : X → Type 0) (xs : List X) → ((x : X) → P x → Q x) → AllByRecursion P xs → AllByRecursion Q xs
 weaker_all P Q [] more all = tt
 weaker_all P Q (x ∷ xs) more all = (more x all.0, weaker_all P Q xs more all.1)
 
-module _ (s : State) (b p : ℕ) (f : List ℕ) (v : BridgeView) (a : Attachment) (rest : IsAtRest s) (at : slice_get s.views b ≡ Some v) (found : attachment_of p v.attached ≡ Some a) (frame : IsCustomerFrame f) (octets : AllByRecursion (λ x. x < 256) f) (group : is_group (to_of f) ≡ true) where
+module _ (s : State) (b p : ℕ) (f : List ℕ) (v : BridgeView) (a : Attachment) (rest : IsAtRest s) (at : slice_get s.views b ≡ Some v) (found : attachment_of p v.attached ≡ Some a) (sending : sends a.mode ≡ true) (frame : IsCustomerFrame f) (octets : AllByRecursion (λ x. x < 256) f) (group : is_group (to_of f) ≡ true) where
   sound : IsSoundState s
   sound = rest.sound
 
@@ -102,7 +95,7 @@ module _ (s : State) (b p : ℕ) (f : List ℕ) (v : BridgeView) (a : Attachment
   pub is_journey : IsJourney s (journey_from b p f v a)
   is_journey = record {
     tables = λ i u at_u. (quiet_is_true s i u rest at_u).tables;
-    tree = is_tree s b p f v a rest at found plan.plan (contains_from_has plan.plan s.world.vids plan.among) plan.is;
+    tree = is_tree s b p f v a rest at found sending plan.plan (contains_from_has plan.plan s.world.vids plan.among) plan.is;
     taken = taken_again v p f a v.source.value found frame octets view.config;
     isid = group_has_isid v.source.value a.isid.value attachment.isid_high;
     group = group_is_group v.source.value a.isid.value;
@@ -160,10 +153,11 @@ leaves_once_at_rest s rest none name b p f cs named passage =
     let low : b < length s.world.bridges = place_within s.world.bridges name b named in
     let view = get_within s.views b (omega (arith, low, rest.sound.fits.bridges)) in
     let v : BridgeView = view.0 in
-    let input : IsAttachedPort v p × IsCustomerFrame f = is_entry s b p f rest.sound (accepted_at s name b p f named passage.accepted.0) v view.1 in
+    let apart = (All-get IsSoundView s.views b v rest.sound.views view.1).config.attachments_apart in
+    let input : IsSendingPort v p × IsCustomerFrame f = is_entry s b p f rest.sound (accepted_at s name b p f named passage.accepted.0) v view.1 in
     let port = input.0 in
-    let found = is_found p v.attached port.0 (has_from_contains port.0 v.attached port.1) port.2 in
-    leaves_once s b p f v found.0 rest view.1 found.1 input.1 passage.octets passage.group none name cs named passage
+    let found = is_found p v.attached port.0 apart (has_from_contains port.0 v.attached port.1) port.2 in
+    leaves_once s b p f v port.0 rest view.1 found port.3 input.1 passage.octets passage.group none name cs named passage
 
 pub exactly_once : ExactlyOnce
 exactly_once s sound accepted_once quiet none = leaves_once_at_rest s (at_rest s sound accepted_once quiet) none

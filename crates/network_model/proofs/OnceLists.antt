@@ -1,18 +1,19 @@
 -- Ports in order, the frames that are sent at them, and how often a port stands among them.
-use Rattle.std.proofs.Common.{◌≡◌, ◌≢◌, ◌<◌, ◌≤◌, ◌+◌, ℕ, zero, suc, Bool, true, false, cond, not, eqb, ltb, eqb-true, eq-eqb, inl, inr, ◌⊎◌, List, [], ◌∷◌, ◌++◌, map, filter, refl, sym, ap, ◌∙◌, subst, arith}
+use Rattle.std.proofs.Common.{◌≡◌, ◌≢◌, ◌<◌, ◌≤◌, ◌+◌, ℕ, zero, suc, Bool, true, false, cond, not, ◌&&◌, eqb, ltb, eqb-true, eq-eqb, inl, inr, ◌⊎◌, List, [], ◌∷◌, ◌++◌, map, filter, refl, sym, ap, ◌∙◌, subst, arith}
 use Rattle.std.specs.Prelude.{if◌then◌else◌, count_by, ◌==◌}
 use Rattle.std.specs.List.{AllByRecursion, range_with_len}
-use Rattle.std.proofs.lemmas.Bool.{false≢true, ltb-true, ltb-false}
+use Rattle.std.proofs.lemmas.Bool.{and_parts, false≢true, ltb-true, ltb-false}
 use Rattle.std.proofs.lemmas.List.Sums.{sum_by-cons, sum_by-append}
 use Rattle.spb_types.specs.Ascending.{placed, ascending, Ascends}
 use Rattle.spb_types.specs.Ports.{has}
+use Rattle.spb_types.specs.Service.{receives}
 use Rattle.spb_types.specs.declared.limits.TheConstants.{MOST_PORTS}
 use Rattle.spb_types.specs.declared.ports.PortSet.{PortSet}
 use Rattle.spb_types.specs.declared.service.Attachment.{Attachment}
 use Rattle.spb_types.specs.declared.service.Isid.{Isid}
 use Rattle.link_model.specs.Lane.{Frame}
-use Rattle.forwarding.specs.Laws.{IsAttachedTo}
-use Rattle.forwarding.specs.Ports.{is_in, ports_of, ports_in, but_for}
+use Rattle.forwarding.specs.Ports.{is_in, receives_in, receiving_ports, ports_in, but_for}
+use Rattle.forwarding.specs.Receiving.{IsReceivingTo}
 use Rattle.forwarding.specs.Tenant.{each_with}
 use Rattle.network_model.specs.DeliveryLaws.{frames_at}
 
@@ -147,7 +148,7 @@ counted_once q (p ∷ ps) ascends (inr among) =
     count-cons (λ r. r == q) p ps
     ∙ (λ i. cond (not_eqb p q (λ e. absurd (omega (arith, e, low))) i) 1 0 + counted_once q ps ascends.1 among i)
 
--- ---- the ports of a service
+-- ---- the ports of a service that receive
 
 below_placed : (x y : ℕ) (ys : List ℕ) → x < y → AllByRecursion (λ z. x < z) ys → AllByRecursion (λ z. x < z) (placed (λ p. p) y ys)
 below_placed x y [] low all = (low, tt)
@@ -177,12 +178,12 @@ placed_ascends x (y ∷ ys) ascends = by (ltb x y) (eqb x y) refl refl (placed_a
     by false true e f more = ascends
     by false false e f more = (below_placed y x ys (above_both x y e f) ascends.0, more)
 
-pub ports_ascend : (isid : Isid) (attached : List Attachment) → Ascends (λ p. p) (ports_of isid attached)
+pub ports_ascend : (isid : Isid) (attached : List Attachment) → Ascends (λ p. p) (receiving_ports isid attached)
 ports_ascend isid [] = tt
-ports_ascend isid (a ∷ attached) = by (is_in isid a) (ports_ascend isid attached)
+ports_ascend isid (a ∷ attached) = by (receives_in isid a) (ports_ascend isid attached)
   where
-    by : (b : Bool) → Ascends (λ p. p) (ports_of isid attached) → Ascends (λ p. p) (ascending (λ p. p) (map (λ (x : Attachment). x.port) (cond b (a ∷ filter (is_in isid) attached) (filter (is_in isid) attached))))
-    by true rest = placed_ascends a.port (ports_of isid attached) rest
+    by : (b : Bool) → Ascends (λ p. p) (receiving_ports isid attached) → Ascends (λ p. p) (ascending (λ p. p) (map (λ (x : Attachment). x.port) (cond b (a ∷ filter (receives_in isid) attached) (filter (receives_in isid) attached))))
+    by true rest = placed_ascends a.port (receiving_ports isid attached) rest
     by false rest = rest
 
 placed_has : (x : ℕ) (ys : List ℕ) → IsPortIn x (placed (λ p. p) x ys)
@@ -204,15 +205,15 @@ placed_keeps x q (y ∷ ys) among = by (ltb x y) (eqb x y) among (λ later. plac
     by false false (inl is) more = inl is
     by false false (inr among) more = inr (more among)
 
--- each port that is attached to the I-SID is one of them
-pub attached_in : (isid : Isid) (attached : List Attachment) (q : ℕ) → IsAttachedTo attached q isid → IsPortIn q (ports_of isid attached)
-attached_in isid [] q is = absurd is
-attached_in isid (a ∷ attached) q is = by (is_in isid a) refl is (λ later. attached_in isid attached q later)
+-- each port that is attached to the I-SID and receives is one of them
+pub receiver_in : (isid : Isid) (attached : List Attachment) (q : ℕ) → IsReceivingTo attached q isid → IsPortIn q (receiving_ports isid attached)
+receiver_in isid [] q is = absurd is
+receiver_in isid (a ∷ attached) q is = by (receives_in isid a) refl is (λ later. receiver_in isid attached q later)
   where
-    by : (b : Bool) → is_in isid a ≡ b → IsAttachedTo (a ∷ attached) q isid → (IsAttachedTo attached q isid → IsPortIn q (ports_of isid attached)) → IsPortIn q (ascending (λ p. p) (map (λ (x : Attachment). x.port) (cond b (a ∷ filter (is_in isid) attached) (filter (is_in isid) attached))))
-    by true e (inl here) more = subst (λ (p : ℕ). IsPortIn p (placed (λ r. r) a.port (ports_of isid attached))) here.0 (placed_has a.port (ports_of isid attached))
-    by true e (inr there) more = placed_keeps a.port q (ports_of isid attached) (more there)
-    by false e (inl here) more = absurd (false≢true (sym e ∙ eq-eqb a.isid.value isid.value (ap (λ (i : Isid). i.value) here.1)))
+    by : (b : Bool) → receives_in isid a ≡ b → IsReceivingTo (a ∷ attached) q isid → (IsReceivingTo attached q isid → IsPortIn q (receiving_ports isid attached)) → IsPortIn q (ascending (λ p. p) (map (λ (x : Attachment). x.port) (cond b (a ∷ filter (receives_in isid) attached) (filter (receives_in isid) attached))))
+    by true e (inl here) more = subst (λ (p : ℕ). IsPortIn p (placed (λ r. r) a.port (receiving_ports isid attached))) here.0 (placed_has a.port (receiving_ports isid attached))
+    by true e (inr there) more = placed_keeps a.port q (receiving_ports isid attached) (more there)
+    by false e (inl here) more = absurd (false≢true (sym e ∙ (λ i. eq-eqb a.isid.value isid.value (ap (λ (n : Isid). n.value) here.1) i && here.2 i)))
     by false e (inr there) more = more there
 
 placed_all : (P : ℕ → Type 0) (x : ℕ) (ys : List ℕ) → P x → AllByRecursion P ys → AllByRecursion P (placed (λ p. p) x ys)
@@ -228,17 +229,18 @@ weaker : (P Q : ℕ → Type 0) (ps : List ℕ) → ((p : ℕ) → P p → Q p) 
 weaker P Q [] more all = tt
 weaker P Q (p ∷ ps) more all = (more p all.0, weaker P Q ps more all.1)
 
--- and each of them is attached to it
-pub ports_attached : (isid : Isid) (attached : List Attachment) → AllByRecursion (λ p. IsAttachedTo attached p isid) (ports_of isid attached)
-ports_attached isid [] = tt
-ports_attached isid (a ∷ attached) =
-    by (is_in isid a) refl (weaker (λ p. IsAttachedTo attached p isid) (λ p. IsAttachedTo (a ∷ attached) p isid) (ports_of isid attached) (λ p is. inr is) (ports_attached isid attached))
+-- and each of them is such a port
+pub ports_receive : (isid : Isid) (attached : List Attachment) → AllByRecursion (λ p. IsReceivingTo attached p isid) (receiving_ports isid attached)
+ports_receive isid [] = tt
+ports_receive isid (a ∷ attached) =
+    by (receives_in isid a) refl (weaker (λ p. IsReceivingTo attached p isid) (λ p. IsReceivingTo (a ∷ attached) p isid) (receiving_ports isid attached) (λ p is. inr is) (ports_receive isid attached))
   where
-    by : (b : Bool) → is_in isid a ≡ b → AllByRecursion (λ p. IsAttachedTo (a ∷ attached) p isid) (ports_of isid attached) → AllByRecursion (λ p. IsAttachedTo (a ∷ attached) p isid) (ascending (λ p. p) (map (λ (x : Attachment). x.port) (cond b (a ∷ filter (is_in isid) attached) (filter (is_in isid) attached))))
+    by : (b : Bool) → receives_in isid a ≡ b → AllByRecursion (λ p. IsReceivingTo (a ∷ attached) p isid) (receiving_ports isid attached) → AllByRecursion (λ p. IsReceivingTo (a ∷ attached) p isid) (ascending (λ p. p) (map (λ (x : Attachment). x.port) (cond b (a ∷ filter (receives_in isid) attached) (filter (receives_in isid) attached))))
     by true e rest =
-        let value : a.isid.value ≡ isid.value = eqb-true a.isid.value isid.value e in
+        let both = and_parts (is_in isid a) (receives a.mode) e in
+        let value : a.isid.value ≡ isid.value = eqb-true a.isid.value isid.value both.0 in
         let same : a.isid ≡ isid = λ i. record { value = value i } in
-        placed_all (λ p. IsAttachedTo (a ∷ attached) p isid) a.port (ports_of isid attached) (inl (refl, same)) rest
+        placed_all (λ p. IsReceivingTo (a ∷ attached) p isid) a.port (receiving_ports isid attached) (inl (refl, same, both.1)) rest
     by false e rest = rest
 
 -- ports but for one: each other stands as often, and that one not at all
@@ -268,20 +270,20 @@ but_for_in port q (p ∷ ps) away among = by (eqb p port) refl among (λ later. 
     by false e (inl is) more = inl is
     by false e (inr among) more = inr (more among)
 
--- at each port attached to the I-SID a frame leaves once; so it is where one other port is left out
-pub leaves_once : (isid : Isid) (attached : List Attachment) (q : ℕ) → IsAttachedTo attached q isid → count_by (λ p. p == q) (ports_of isid attached) ≡ 1
-leaves_once isid attached q is = counted_once q (ports_of isid attached) (ports_ascend isid attached) (attached_in isid attached q is)
+-- at each port that is attached to the I-SID and receives a frame leaves once; so it is where one other port is left out
+pub leaves_once : (isid : Isid) (attached : List Attachment) (q : ℕ) → IsReceivingTo attached q isid → count_by (λ p. p == q) (receiving_ports isid attached) ≡ 1
+leaves_once isid attached q is = counted_once q (receiving_ports isid attached) (ports_ascend isid attached) (receiver_in isid attached q is)
 
-pub other_leaves_once : (isid : Isid) (attached : List Attachment) (port q : ℕ) → q ≢ port → IsAttachedTo attached q isid → count_by (λ p. p == q) (but_for port (ports_of isid attached)) ≡ 1
+pub other_leaves_once : (isid : Isid) (attached : List Attachment) (port q : ℕ) → q ≢ port → IsReceivingTo attached q isid → count_by (λ p. p == q) (but_for port (receiving_ports isid attached)) ≡ 1
 other_leaves_once isid attached port q away is =
-    counted_once q (but_for port (ports_of isid attached)) (but_for_ascends port (ports_of isid attached) (ports_ascend isid attached))
-    (but_for_in port q (ports_of isid attached) away (attached_in isid attached q is))
+    counted_once q (but_for port (receiving_ports isid attached)) (but_for_ascends port (receiving_ports isid attached) (ports_ascend isid attached))
+    (but_for_in port q (receiving_ports isid attached) away (receiver_in isid attached q is))
 
 -- ---- no port of an I-SID
 
 -- where the list has none of it, no port is one
-pub no_ports_of : (isid : Isid) (attached : List Attachment) → AllByRecursion (λ a. is_in isid a ≡ false) attached → ports_of isid attached ≡ []
+pub no_ports_of : (isid : Isid) (attached : List Attachment) → AllByRecursion (λ a. is_in isid a ≡ false) attached → receiving_ports isid attached ≡ []
 no_ports_of isid [] none = refl
 no_ports_of isid (a ∷ attached) none =
-    ap (λ (b : Bool). ascending (λ p. p) (map (λ (x : Attachment). x.port) (cond b (a ∷ filter (is_in isid) attached) (filter (is_in isid) attached)))) none.0
+    ap (λ (b : Bool). ascending (λ p. p) (map (λ (x : Attachment). x.port) (cond (b && receives a.mode) (a ∷ filter (receives_in isid) attached) (filter (receives_in isid) attached)))) none.0
     ∙ no_ports_of isid attached none.1

@@ -17,7 +17,8 @@ use Rattle.link_model.specs.Lane.{Frame}
 use Rattle.link_model.specs.declared.lanes.LaneId.{LaneId}
 use Rattle.customer_learning.specs.Known.{same_mac}
 use Rattle.forwarding.specs.Laws.{IsAttachedTo}
-use Rattle.forwarding.specs.Ports.{but_for, is_in, ports_in, ports_of}
+use Rattle.forwarding.specs.Ports.{but_for, is_in, ports_in, receiving_ports}
+use Rattle.forwarding.specs.Receiving.{IsReceivingTo}
 use Rattle.forwarding.specs.Tenant.{each_with, is_group, to_of}
 use Rattle.bridge_api.specs.View.{BridgeView, has_carrier_at, with_drops}
 use Rattle.bridge_api.specs.Config.{ArePairwise}
@@ -45,7 +46,7 @@ use Rattle.network_model.proofs.SoundLane.{some-is}
 use Rattle.spb_world.proofs.SoundLaneIds.{turned, near-turned, lane_of_end}
 use Rattle.network_model.proofs.Spoken.{place_low}
 use Rattle.spb_world.proofs.WorldLemmas.{ports_at-le}
-use Rattle.network_model.proofs.OnceLists.{at_each_other, count-append, leaves_once, no_ports_of, ports_attached}
+use Rattle.network_model.proofs.OnceLists.{at_each_other, count-append, leaves_once, no_ports_of, ports_receive}
 use Rattle.network_model.proofs.OnceBridge.{leaves_at_each, receiving_learns, relays_on}
 use Rattle.network_model.proofs.OnceOuts.{counted_elsewhere, counted_here, each_out, in_both, named_at, names_apart, one_name}
 
@@ -257,10 +258,10 @@ module _ (start : State) (j : Journey) (is : IsJourney start j) (served : ℕ �
       relays_on v q bytes j.to j.from j.vid j.isid j.frame carries taken way is.isid away is.group is.customers one_vid
       ∙ (λ i. each_with (came.1 i) (but_for q (ports_in (group_in (tables_are i).group j.vid j.to))))
 
-  leaves : left_by (frame q bytes) v ≡ each_with j.frame (ports_of j.isid (attached_at w c))
+  leaves : left_by (frame q bytes) v ≡ each_with j.frame (receiving_ports j.isid (attached_at w c))
   leaves =
       leaves_at_each v q bytes j.to j.from j.vid j.isid j.frame carries taken way is.isid away is.group is.customers one_vid (no_ports_of j.isid v.attached)
-      ∙ ap (λ (as_attached : List Attachment). each_with j.frame (ports_of j.isid as_attached)) attached
+      ∙ ap (λ (as_attached : List Attachment). each_with j.frame (receiving_ports j.isid as_attached)) attached
 
   learns : HasLearned v (step (frame q bytes) v)
   learns = receiving_learns v q bytes j.to j.from j.vid j.isid j.frame carries taken
@@ -394,7 +395,7 @@ module _ (start : State) (j : Journey) (is : IsJourney start j) (served : ℕ �
   apart_names = subst (λ (x : World). ArePairwise (λ x y. x ≢ y) (names_of x.bridges)) under.world sound.distinct.bridges
 
   abbrev new : List Out
-  new = outs_at (Some name) (each_with j.frame (ports_of j.isid (attached_at w c)))
+  new = outs_at (Some name) (each_with j.frame (receiving_ports j.isid (attached_at w c)))
 
   left_is : before ++ t.outs ≡ (before ++ s.outs) ++ new
   left_is =
@@ -409,12 +410,12 @@ module _ (start : State) (j : Journey) (is : IsJourney start j) (served : ℕ �
   right2 =
       subst (AllByRecursion (IsRight w j.bridge j.port j.frame)) (sym left_is)
       (in_both (IsRight w j.bridge j.port j.frame) (before ++ s.outs) new under.right
-      (each_out (λ p. IsAttachedTo (attached_at w c) p j.isid) (IsRight w j.bridge j.port j.frame) name j.frame (ports_of j.isid (attached_at w c)) right (ports_attached j.isid (attached_at w c))))
+      (each_out (λ p. IsReceivingTo (attached_at w c) p j.isid) (IsRight w j.bridge j.port j.frame) name j.frame (receiving_ports j.isid (attached_at w c)) right (ports_receive j.isid (attached_at w c))))
     where
       walk : (walk : List ℕ) × IsWalk (links_of start) j.bridge walk c
       walk = joined2 c now_served
 
-      right : (p : ℕ) → IsAttachedTo (attached_at w c) p j.isid → IsRight w j.bridge j.port j.frame (record { bridge = name; port = p; frame = j.frame })
+      right : (p : ℕ) → IsReceivingTo (attached_at w c) p j.isid → IsRight w j.bridge j.port j.frame (record { bridge = name; port = p; frame = j.frame })
       right p attached_p = record {
         place = c;
         named = place_named w c name apart_names named;
@@ -428,7 +429,7 @@ module _ (start : State) (j : Journey) (is : IsJourney start j) (served : ℕ �
   elsewhere : (y p : ℕ) (n : List ℕ) → slice_get (names_of w.bridges) y ≡ Some n → y ≢ c → count_by (left_at n p) (before ++ t.outs) ≡ count_by (left_at n p) (before ++ s.outs)
   elsewhere y p n at_n apart =
       count_is n p
-      ∙ (ap (λ (i : ℕ). count_by (left_at n p) (before ++ s.outs) + i) (counted_elsewhere n name p j.frame (ports_of j.isid (attached_at w c)) (λ same. names_apart w y c n name apart_names at_n named apart (sym same)))
+      ∙ (ap (λ (i : ℕ). count_by (left_at n p) (before ++ s.outs) + i) (counted_elsewhere n name p j.frame (receiving_ports j.isid (attached_at w c)) (λ same. names_apart w y c n name apart_names at_n named apart (sym same)))
       ∙ omega arith)
 
   once2 : (y p : ℕ) (n : List ℕ) → slice_get (names_of w.bridges) y ≡ Some n → served2 y ≡ true → IsReceivingAt w y p j.isid → ((y ≡ j.bridge) × (p ≡ j.port) → ⊥) → count_by (left_at n p) (before ++ t.outs) ≡ 1
@@ -438,10 +439,10 @@ module _ (start : State) (j : Journey) (is : IsJourney start j) (served : ℕ �
       by (inl same) =
           let at_c : slice_get (names_of w.bridges) c ≡ Some n = ap (slice_get (names_of w.bridges)) (sym same) ∙ at_n in
           let its : n ≡ name = one_name w c n name at_c named in
-          let here : IsAttachedTo (attached_at w c) p j.isid = subst (λ (i : ℕ). IsAttachedTo (attached_at w i) p j.isid) same receives in
+          let here : IsReceivingTo (attached_at w c) p j.isid = subst (λ (i : ℕ). IsReceivingTo (attached_at w i) p j.isid) same receives in
           let fresh : count_by (left_at n p) new ≡ 1 =
           ap (λ (x : List ℕ). count_by (left_at x p) new) its
-          ∙ (counted_here name p j.frame (ports_of j.isid (attached_at w c)) ∙ leaves_once j.isid (attached_at w c) p here) in
+          ∙ (counted_here name p j.frame (receiving_ports j.isid (attached_at w c)) ∙ leaves_once j.isid (attached_at w c) p here) in
           count_is n p ∙ (λ i. under.none c p n at_c facts.2 i + fresh i)
       by (inr apart) = elsewhere y p n at_n apart ∙ under.once y p n at_n (sym (other y apart) ∙ e) receives out
 

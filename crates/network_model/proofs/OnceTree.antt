@@ -8,6 +8,7 @@ use Rattle.std.proofs.lemmas.List.{length-map}
 use Rattle.std.proofs.lemmas.Option.{slice_get_within}
 use Rattle.spb_types.specs.Graph.{joins, port_at, port_between}
 use Rattle.spb_types.specs.Ports.{has}
+use Rattle.spb_types.specs.Service.{receives, sends}
 use Rattle.spb_types.specs.Tables.{unicast_in, group_in}
 use Rattle.spb_types.specs.declared.address.SystemId.{SystemId}
 use Rattle.spb_types.specs.declared.graph.Edge.{Edge}
@@ -23,22 +24,21 @@ use Rattle.spb_types.specs.declared.service.Vid.{Vid}
 use Rattle.spb_types.specs.declared.service.VidPlan.{VidPlan}
 use Rattle.ect_trees.specs.Laws.{IsReached}
 use Rattle.ect_trees.proofs.Joining.{port_among_find}
-use Rattle.spb_content.proofs.Members.{Has, all_has, contains_from_has, has_from_contains, map_has}
+use Rattle.spb_content.proofs.Members.{Has, all_has, contains_from_has, has_from_contains, map_has, weaker}
 use Rattle.fdb_build.specs.Tables.{unicast_rows}
-use Rattle.fdb_build.specs.Groups.{group_rows}
+use Rattle.fdb_build.specs.Groups.{Sends, Receives, group_rows}
 use Rattle.fdb_build.specs.GroupTrees.{AcceptsFrom, FollowsOnTree, group_ports}
 use Rattle.fdb_build.specs.GroupTrees as trees
-use Rattle.fdb_build.proofs.AscendLemmas.{filter_map_has}
 use Rattle.fdb_build.proofs.TreeLemmas.{followers_accept, receivers_are_on_tree, rows_lead_to_followers}
-use Rattle.forwarding.specs.Laws.{IsAttachedTo}
 use Rattle.forwarding.specs.Ports.{attachment_of}
+use Rattle.forwarding.specs.Receiving.{IsReceivingTo}
 use Rattle.bridge_api.specs.View.{BridgeView}
 use Rattle.bridge_api.specs.Config.{ArePairwise, vids_of}
 use Rattle.bridge_api.specs.Laws.{IsSoundView}
 use Rattle.spb_world.specs.declared.declaration.DeclaredBridge.{DeclaredBridge}
 use Rattle.spb_world.specs.declared.declaration.DeclaredLink.{DeclaredLink}
 use Rattle.spb_world.specs.declared.declaration.LinkEnd.{LinkEnd}
-use Rattle.spb_world.specs.World.{World, AllApart, AreApart, IsAttachedIn, attached_at, attachment_at, is_between, system_at, things_of, vid_of_isid, wired_tables, world_graph}
+use Rattle.spb_world.specs.World.{World, AllApart, AreApart, IsAttachedIn, attached_at, is_between, system_at, things_of, vid_of_isid, wired_tables, world_graph}
 use Rattle.network_model.specs.State.{State}
 use Rattle.spb_world.specs.Links.{near_end, far_end}
 use Rattle.network_model.specs.Sound.{IsSoundState}
@@ -48,13 +48,13 @@ use Rattle.network_model.specs.UnderWay.{Journey, leads_over, LeadsDown, IsTree}
 use Rattle.spb_world.proofs.BoxLemmas.{All-get}
 use Rattle.network_model.proofs.Linked.{get_within}
 use Rattle.network_model.proofs.QuietTruth.{quiet_is_true}
-use Rattle.network_model.proofs.Reached.{attached_place, by_wiring, shown_bridge, wired_bridge}
-use Rattle.network_model.proofs.SoundAttaching.{found_high}
+use Rattle.network_model.proofs.Reached.{shown_bridge, wired_bridge}
 use Rattle.network_model.proofs.SoundLane.{some-is}
 use Rattle.spb_world.proofs.SoundLaneIds.{turned, near-turned}
 use Rattle.network_model.proofs.Spoken.{place_low, system_is}
 use Rattle.network_model.proofs.QuietReadLinks.{port_is, systems_apart}
-use Rattle.spb_world.proofs.MemberLemmas.{member_attached}
+use Rattle.spb_world.proofs.AttachedLemmas.{all_at}
+use Rattle.spb_world.proofs.MemberLemmas.{member_isid, port_receives, port_sends}
 use Rattle.spb_world.proofs.ValidLemmas.{place_from, valid_for}
 use Rattle.network_model.proofs.Wires.{IsLinkOf, between, edge_found, edge_sought, far_is, find_in, has_place, is_link, near_is, same_dir}
 use Rattle.network_model.proofs.OnceStep.{far-turned}
@@ -89,16 +89,17 @@ one_source (d ∷ ds) x y apart (inr h) (inr k) same = one_source ds x y apart.1
 
 -- ---- a port that is attached
 
-pub record IsMemberPort (attached : List Attachment) (isid : Isid) : Type 0 where
-  pub attachment : Attachment
-  pub among : Has attachment attached
-  pub service : attachment.isid ≡ isid
+record IsReceiver (attached : List Attachment) (isid : Isid) : Type 0 where
+  attachment : Attachment
+  among : Has attachment attached
+  service : attachment.isid ≡ isid
+  takes : receives attachment.mode ≡ true
 
-pub member_port : (attached : List Attachment) (q : ℕ) (isid : Isid) → IsAttachedTo attached q isid → IsMemberPort attached isid
-member_port [] q isid is = absurd is
-member_port (a ∷ attached) q isid (inl here) = record { attachment = a; among = inl refl; service = here.1 }
-member_port (a ∷ attached) q isid (inr there) =
-    let r = member_port attached q isid there in record { attachment = r.attachment; among = inr r.among; service = r.service }
+receiver : (attached : List Attachment) (q : ℕ) (isid : Isid) → IsReceivingTo attached q isid → IsReceiver attached isid
+receiver [] q isid is = absurd is
+receiver (a ∷ attached) q isid (inl here) = record { attachment = a; among = inl refl; service = here.1; takes = here.2 }
+receiver (a ∷ attached) q isid (inr there) =
+    let r = receiver attached q isid there in record { attachment = r.attachment; among = inr r.among; service = r.service; takes = r.takes }
 
 -- the bridge is there, and the port is in the VID of the service
 pub record IsAttachedThere (w : World) (c : ℕ) (a : Attachment) : Type 0 where
@@ -107,13 +108,10 @@ pub record IsAttachedThere (w : World) (c : ℕ) (a : Attachment) : Type 0 where
 
 pub attached_there : (s : State) (c : ℕ) (a : Attachment) → IsSoundState s → Has a (attached_at s.world c) → IsAttachedThere s.world c a
 attached_there s c a sound h =
-    let x = filter_map_has (attachment_at c) a s.world.attached h in
-    let place = attached_place c x.0 a x.2 in
-    let is : IsAttachedIn s.world.bridges s.world.services x.0 = all_has (IsAttachedIn s.world.bridges s.world.services) x.0 s.world.attached sound.world.attached x.1 in
-    record {
-      low = subst (λ (i : ℕ). i < length s.world.bridges) place.0 is.bridge;
-      vid = subst (λ (y : Attachment). vid_of_isid s.world.services y.isid.value ≡ Some y.vid) place.1 is.service;
-    }
+    let w : World = s.world in
+    all_has (IsAttachedThere w c) a (attached_at w c)
+    (all_at (IsAttachedThere w c) c w.attached
+    (weaker (IsAttachedIn w.bridges w.services) (λ (x : ℕ × Attachment). x.0 ≡ c → IsAttachedThere w c x.1) w.attached (λ x is at. record { low = subst (λ (i : ℕ). i < length w.bridges) at is.bridge; vid = is.service }) sound.world.attached)) h
 
 pub one_vid : (w : World) (a c : Attachment) → vid_of_isid w.services a.isid.value ≡ Some a.vid → vid_of_isid w.services c.isid.value ≡ Some c.vid → c.isid.value ≡ a.isid.value → c.vid ≡ a.vid
 one_vid w a c here there same = let one : Some c.vid ≡ Some a.vid = sym there ∙ (ap (vid_of_isid w.services) same ∙ here) in cc
@@ -133,7 +131,7 @@ planned_vid vid (plan ∷ plans) is = by (eqb vid.value plan.vid.value) refl is 
 
 -- ---- the tree
 
-module _ (s : State) (b p : ℕ) (f : List ℕ) (v : BridgeView) (a : Attachment) (rest : IsAtRest s) (at : slice_get s.views b ≡ Some v) (found : attachment_of p v.attached ≡ Some a) (plan : VidPlan) (planned : Contains s.world.vids plan) (in_vid : plan.vid ≡ a.vid) where
+module _ (s : State) (b p : ℕ) (f : List ℕ) (v : BridgeView) (a : Attachment) (rest : IsAtRest s) (at : slice_get s.views b ≡ Some v) (found : attachment_of p v.attached ≡ Some a) (sending : sends a.mode ≡ true) (plan : VidPlan) (planned : Contains s.world.vids plan) (in_vid : plan.vid ≡ a.vid) where
   abbrev w : World
   w = s.world
 
@@ -152,12 +150,32 @@ module _ (s : State) (b p : ℕ) (f : List ℕ) (v : BridgeView) (a : Attachment
   abbrev sys : ℕ → SystemId
   sys i = system_at s.world.bridges i
 
-  -- a port of the service makes its bridge a member
-  member_of_port : (c : ℕ) (u : BridgeView) (x : Attachment) → slice_get s.views c ≡ Some u → Has x u.attached → x.isid ≡ a.isid → x.vid ≡ a.vid → Contains g.members (record { system = u.id.system; isid = a.isid; vid = plan.vid })
-  member_of_port c u x at_u among isid vid =
-      let m : Member = record { system = u.id.system; isid = a.isid; vid = plan.vid } in
-      contains_from_has m g.members
-      (by_wiring s c u m sound at_u (x, contains_from_has x u.attached among, λ i. record { system = u.id.system; isid = sym isid i; vid = (in_vid ∙ sym vid) i }))
+  -- the port where it entered makes its bridge a sender
+  source_sends : Sends g a.isid plan.vid v.id.system
+  source_sends =
+      let among : Has a (attached_at w b) = subst (λ (xs : List Attachment). Has a xs) (sound.attached b v at) (find_in (λ x. x.port == p) v.attached a found).0 in
+      let is = port_sends w b a sound.world (place_low s b v sound at) among sending in
+      record {
+        member = is.member;
+        there = is.there;
+        of_system = is.of_system ∙ system_is s b v sound at;
+        in_service = is.in_service;
+        in_vid = is.in_vid ∙ sym in_vid;
+        transmits = is.transmits;
+      }
+
+  -- and a port of the service that receives makes its bridge a receiver
+  port_takes : (c : ℕ) (u : BridgeView) (x : Attachment) → slice_get s.views c ≡ Some u → Has x (attached_at w c) → receives x.mode ≡ true → x.isid ≡ a.isid → x.vid ≡ a.vid → Receives g a.isid plan.vid u.id.system
+  port_takes c u x at_u among takes isid vid =
+      let is = port_receives w c x sound.world (place_low s c u sound at_u) among takes in
+      record {
+        member = is.member;
+        there = is.there;
+        of_system = is.of_system ∙ system_is s c u sound at_u;
+        in_service = is.in_service ∙ isid;
+        in_vid = is.in_vid ∙ (vid ∙ sym in_vid);
+        receives = is.receives;
+      }
 
   service : trees.IsService g w.vids plan source a.isid
   service = record {
@@ -165,7 +183,7 @@ module _ (s : State) (b p : ℕ) (f : List ℕ) (v : BridgeView) (a : Attachment
     plans = sound.world.plans;
     planned = planned;
     bridge = contains_from_has source g.bridges (wired_bridge s b v sound at);
-    sends = member_of_port b v a at (find_in (λ x. x.port == p) v.attached a found).0 refl refl;
+    sends = source_sends;
     apart = apart;
     sources = low_source;
     isids = low_isid;
@@ -191,10 +209,7 @@ module _ (s : State) (b p : ℕ) (f : List ℕ) (v : BridgeView) (a : Attachment
           subst (λ (z : GraphBridge). z.source.value < SOURCE_IDS) d.2 (subst (λ (n : SourceId). n.value < SOURCE_IDS) is.source sound_view.config.source)
 
       low_isid : (m : Member) → Contains g.members m → m.isid.value ≤ GREATEST_ISID
-      low_isid m k =
-          let x = member_attached w m (has_from_contains m g.members k) in
-          let is = all_has (IsAttachedIn w.bridges w.services) x.0 w.attached sound.world.attached x.1 in
-          subst (λ (n : Member). n.isid.value ≤ GREATEST_ISID) (sym x.2) (found_high w x.0.1.isid.value x.0.1.vid sound.world is.service)
+      low_isid m k = member_isid w m sound.world (has_from_contains m g.members k)
 
   -- ---- links and ports
 
@@ -276,10 +291,10 @@ module _ (s : State) (b p : ℕ) (f : List ℕ) (v : BridgeView) (a : Attachment
       (k ∷ more.0, (record { place = q.place; dir = q.dir; link = l; there = q.there; leads = (λ i. q.live i && has_port i); near = near; far = refl }, more.1))
 
   member_down : (c q : ℕ) (walk : List ℕ) → IsReceivingAt w c q a.isid → IsWalk (things_of w.links) b walk c → (ks : List ℕ) × LeadsDown w j b ks c
-  member_down c q walk receives joined = by (cases_eq c b)
+  member_down c q walk receiving joined = by (cases_eq c b)
     where
-      port : IsMemberPort (attached_at w c) a.isid
-      port = member_port (attached_at w c) q a.isid receives
+      port : IsReceiver (attached_at w c) a.isid
+      port = receiver (attached_at w c) q a.isid receiving
 
       there : IsAttachedThere w c port.attachment
       there = attached_there s c port.attachment sound port.among
@@ -295,9 +310,8 @@ module _ (s : State) (b p : ℕ) (f : List ℕ) (v : BridgeView) (a : Attachment
           let u : BridgeView = view.0 in
           let sys_b : sys b ≡ v.id.system = system_is s b v sound at in
           let sys_c : sys c ≡ u.id.system = system_is s c u sound view.1 in
-          let among : Has port.attachment u.attached = subst (λ (xs : List Attachment). Has port.attachment xs) (sym (sound.attached c u view.1)) port.among in
           let vid : port.attachment.vid ≡ a.vid = one_vid w a port.attachment own_vid there.vid (ap (λ (i : Isid). i.value) port.service) in
-          let takes = member_of_port c u port.attachment view.1 among port.service vid in
+          let takes = port_takes c u port.attachment view.1 port.among port.takes port.service vid in
           let other : u.id.system ≢ v.id.system = λ same. apart (place_from w.bridges sound.world.systems c b there.low low_b (sys_c ∙ (same ∙ sym sys_b))) in
           let reached : IsReached g v.id.system u.id.system =
           ((quiet_is_true s b v rest at).reached u.id.system).1 (record { w = u; joined = record { from = b; to = c; here = at; there = view.1; walk = walk; leads = joined }; is = refl }) in

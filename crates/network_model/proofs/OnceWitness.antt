@@ -12,6 +12,7 @@ use Rattle.lsdb.proofs.Flags.{without_due}
 use Rattle.spb_types.specs.declared.address.LspId.{LspId}
 use Rattle.spb_types.specs.declared.ports.PortSet.{PortSet}
 use Rattle.spb_types.specs.declared.service.Isid.{Isid}
+use Rattle.spb_types.specs.declared.service.Mode.TheVariants.{Both}
 use Rattle.lsdb.specs.Entry.{Entry}
 use Rattle.lsdb.specs.Database.{srm_in, ssn_in}
 use Rattle.bridge_api.specs.declared.port.BridgePort.{BridgePort}
@@ -107,7 +108,7 @@ module _ (s : State) (sound : IsSoundState s) (unlinked : links_of s ≡ []) whe
 -- ---- three ports in a service
 
 abbrev three : List Command
-three = declarations ++ command.Attach name 3 7 ∷ []
+three = declarations ++ command.Attach name 3 7 Both ∷ []
 
 abbrev world : World
 world = record {
@@ -164,10 +165,10 @@ abbrev isid : Isid
 isid = record { value = 7 }
 
 second_reached : IsReach world 0 1 0 2
-second_reached = record { isid = isid; here = inl (refl, refl); there = inr (inl (refl, refl)); walk = []; joined = refl; other = λ same. absurd (omega (arith, same.1)) }
+second_reached = record { isid = isid; here = inl (refl, refl); there = inr (inl (refl, refl, refl)); walk = []; joined = refl; other = λ same. absurd (omega (arith, same.1)) }
 
 third_reached : IsReach world 0 1 0 3
-third_reached = record { isid = isid; here = inl (refl, refl); there = inr (inr (inl (refl, refl))); walk = []; joined = refl; other = λ same. absurd (omega (arith, same.1)) }
+third_reached = record { isid = isid; here = inl (refl, refl); there = inr (inr (inl (refl, refl, refl))); walk = []; joined = refl; other = λ same. absurd (omega (arith, same.1)) }
 
 pub some_frame_passes : SomeFramePasses
 some_frame_passes = record {

@@ -1,5 +1,5 @@
 -- What a bridge reaches in a quiet network is what the wiring joins to it, and its graph is that part of the wiring.
-use Rattle.std.proofs.Common.{◌≡◌, inl, inr, ℕ, Bool, true, false, true≢false, ◌==◌, eqb-true, eq-eqb, List, [], ◌∷◌, length, Option, Some, None, IsSome, Contains, filter, flat_map, find, slice_get, if◌then◌else◌, refl, sym, ap, ◌∙◌, subst}
+use Rattle.std.proofs.Common.{◌≡◌, inl, inr, ℕ, true≢false, List, [], ◌∷◌, length, Option, Some, None, IsSome, Contains, filter, flat_map, find, slice_get, refl, sym, ap, ◌∙◌, subst}
 use Rattle.std.specs.Prelude.{◌≤◌}
 use Rattle.std.specs.Option.{option_map}
 use Rattle.std.specs.List.{filter_map}
@@ -9,7 +9,6 @@ use Rattle.spb_types.specs.declared.graph.Edge.{Edge}
 use Rattle.spb_types.specs.declared.graph.GraphBridge.{GraphBridge}
 use Rattle.spb_types.specs.declared.graph.Member.{Member}
 use Rattle.spb_types.specs.declared.limits.TheConstants.{MOST_GRAPH_BRIDGES}
-use Rattle.spb_types.specs.declared.service.Attachment.{Attachment}
 use Rattle.ect_trees.specs.Path.{Leads}
 use Rattle.ect_trees.specs.Laws.{IsReached, LookAlike}
 use Rattle.ect_trees.proofs.Joining.{cost_among_find}
@@ -18,7 +17,8 @@ use Rattle.spb_content.specs.Graph.{Contents, cost_said, port_said, bridge_of, m
 use Rattle.spb_content.specs.Building.{has_inst}
 use Rattle.spb_content.specs.Laws.{HasAllLinks}
 use Rattle.spb_content.specs.Local.{said_by}
-use Rattle.spb_content.proofs.Members.{Has, has_from_contains, contains_from_has, all_has, has_map, has_flat_map, flat_map_has}
+use Rattle.spb_content.specs.Members.{member_for, pairs_of}
+use Rattle.spb_content.proofs.Members.{Has, has_from_contains, contains_from_has, has_map, map_has, has_flat_map, flat_map_has}
 use Rattle.spb_content.specs.declared.content.Inst.{Inst}
 use Rattle.spb_content.proofs.Links.{some_same}
 use Rattle.spb_content.proofs.Chosen.{AreChosen, one_content, said_has}
@@ -26,18 +26,18 @@ use Rattle.spb_content.proofs.Uncut.{IsSaid, all_chosen, said_graph_has_all_link
 use Rattle.spb_content.proofs.Whole.{is_bridge, bridges_are, are_bridges, members_are, are_members}
 use Rattle.fdb_build.proofs.AscendLemmas.{filter_map_has, has_filter_map}
 use Rattle.bridge_api.specs.View.{BridgeView}
-use Rattle.bridge_api.specs.Own as own
 use Rattle.bridge_api.specs.Own.{local_of}
-use Rattle.bridge_api.specs.Graph.{contents_of, read_graph, IsMemberBy}
+use Rattle.bridge_api.specs.Graph.{contents_of, read_graph}
+use Rattle.bridge_api.specs.Laws.{IsSoundView}
 use Rattle.bridge_api.proofs.GraphRead.{reads_each_once}
 use Rattle.bridge_laws.proofs.SaidMembers.{members_are_said}
 use Rattle.spb_world.specs.declared.declaration.DeclaredBridge.{DeclaredBridge}
-use Rattle.spb_world.specs.World.{World, Bridges, IsAttachedIn, things_of, system_at, attachment_at, attached_at, member_at, world_graph}
+use Rattle.spb_world.specs.World.{World, things_of, bridge_members, members_at, system_at, world_graph}
 use Rattle.network_model.specs.State.{State}
 use Rattle.network_model.specs.Sound.{IsSoundState}
 use Rattle.network_model.specs.Truth.{IsAtRest, AreJoined, IsThere}
 use Rattle.spb_world.proofs.BoxLemmas.{All-get}
-use Rattle.spb_world.proofs.MemberLemmas.{attached_member, member_attached}
+use Rattle.spb_world.proofs.MemberLemmas.{member_there, there_member}
 use Rattle.spb_world.proofs.ValidLemmas.{among_at, place_from}
 use Rattle.network_model.proofs.QuietRead.{quiet_is_read}
 use Rattle.network_model.proofs.Wires.{IsLinkOf, place_has, edge_sought}
@@ -152,53 +152,17 @@ bridge_read s v b rest there k =
 -- ---- members: what is attached to the customer ports of a bridge
 
 member_is : (c : SystemId × Content) (m : Member) → Has m (members_of c) → m.system ≡ c.0
-member_is c m h = at (filter_map_has (member_of c.0) m c.1.services h)
-  where
-    of_test : (b : Bool) (n : Member) → n.system ≡ c.0 → (if b then Some n else None) ≡ Some m → m.system ≡ c.0
-    of_test true n e k = ap (λ (t : Member). t.system) (sym (some_same n m k)) ∙ e
-    of_test false n e k = absurd cc
+member_is c m h =
+    let said : List Member = filter_map (member_of c.0) c.1.services in
+    let p = map_has (member_for c.0 said) m (pairs_of said) h in
+    ap (λ (t : Member). t.system) p.2
 
-    at : (s : _) × Has s c.1.services × (member_of c.0 s ≡ Some m) → m.system ≡ c.0
-    at (s, k, e) = of_test (_) (record { system = c.0; isid = s.2.isid; vid = s.1 }) refl e
-
-pub attached_place : (i : ℕ) (x : ℕ × Attachment) (a : Attachment) → attachment_at i x ≡ Some a → (x.0 ≡ i) × (x.1 ≡ a)
-attached_place i x a h = by (x.0 == i) refl h
-  where
-    by : (b : Bool) → (x.0 == i) ≡ b → (if b then Some x.1 else None) ≡ Some a → (x.0 ≡ i) × (x.1 ≡ a)
-    by true e k = (eqb-true x.0 i e, some_same x.1 a k)
-    by false e k = absurd cc
-
-place_attached : (i : ℕ) (x : ℕ × Attachment) → x.0 ≡ i → attachment_at i x ≡ Some x.1
-place_attached i x e = ap (λ b. if b then Some x.1 else None) (eq-eqb x.0 i e)
-
--- a member by what is attached to a bridge is one of the wiring
-pub by_wiring : (s : State) (j : ℕ) (w : BridgeView) (m : Member) → IsSoundState s → slice_get s.views j ≡ Some w → IsMemberBy w m → Has m (world_graph s.world).members
-by_wiring s j w m sound at k =
-    let bs : Bridges = s.world.bridges in
-    let a : Attachment = k.0 in
-    let here : Has a (attached_at s.world j) = subst (λ (list : List Attachment). Has a list) (sound.attached j w at) (has_from_contains a w.attached k.1) in
-    let x = filter_map_has (attachment_at j) a s.world.attached here in
-    let p = attached_place j x.0 a x.2 in
-    let same : member_at bs x.0 ≡ m =
-    ap (λ (n : ℕ). own.member_of (system_at bs n) x.0.1) p.0
-    ∙ (ap (own.member_of (system_at bs j)) p.1
-    ∙ (ap (λ (y : SystemId). own.member_of y a) (system_is s j w sound at) ∙ sym k.2)) in
-    subst (λ z. Has z (world_graph s.world).members) same (attached_member s.world sound.world x.0 x.1)
-
--- and one of the wiring is one by what is attached to its bridge
-by_bridge : (s : State) (j : ℕ) (w : BridgeView) (m : Member) → IsSoundState s → slice_get s.views j ≡ Some w → w.id.system ≡ m.system → Has m (world_graph s.world).members → IsMemberBy w m
-by_bridge s j w m sound at is h =
-    let bs : Bridges = s.world.bridges in
-    let x = member_attached s.world m h in
-    let low = (all_has (IsAttachedIn bs s.world.services) x.0 s.world.attached sound.world.attached x.1).bridge in
-    let place : x.0.0 ≡ j = place_from bs sound.world.systems x.0.0 j low (place_low s j w sound at) (sym (ap (λ (t : Member). t.system) x.2) ∙ (sym is ∙ sym (system_is s j w sound at))) in
-    let here : Has x.0.1 (attached_at s.world j) = has_filter_map (attachment_at j) x.0.1 s.world.attached x.0 x.1 (place_attached j x.0 place) in
-    let there : Has x.0.1 w.attached = subst (λ (list : List Attachment). Has x.0.1 list) (sym (sound.attached j w at)) here in
-    let same : m ≡ own.member_of w.id.system x.0.1 =
-    x.2
-    ∙ (ap (λ (n : ℕ). own.member_of (system_at bs n) x.0.1) place
-    ∙ ap (λ (y : SystemId). own.member_of y x.0.1) (system_is s j w sound at)) in
-    (x.0.1, contains_from_has x.0.1 w.attached there, same)
+-- what is read of what a bridge says, are its members in the wiring
+said_wired : (s : State) (j : ℕ) (w : BridgeView) → IsSoundState s → slice_get s.views j ≡ Some w → members_of (w.id.system, said_by (local_of w)) ≡ members_at s.world j
+said_wired s j w sound at =
+    let system : w.id.system ≡ system_at s.world.bridges j = sym (system_is s j w sound at) in
+    members_are_said w (All-get IsSoundView s.views j w sound.views at)
+    ∙ (λ i. bridge_members (system i) (sound.attached j w at i))
 
 member_wired : (s : State) (v : BridgeView) (m : Member) → IsAtRest s → IsThere s v m.system → Contains (read_graph v).members m → Contains (world_graph s.world).members m
 member_wired s v m rest there k =
@@ -206,16 +170,19 @@ member_wired s v m rest there k =
     let list : Contents = contents_of v in
     let c = flat_map_has members_of m list (has_from_contains m (flat_map members_of list) (members_are list (IsSaid list) (filter has_inst list) m (chosen v) k).0) in
     let same : c.0 ≡ (w.id.system, said_by (local_of w)) = only_read s v w c.0 rest there.joined c.1 (sym (member_is c.0 m c.2) ∙ sym there.is) in
-    let said : Has m (members_of (w.id.system, said_by (local_of w))) = subst (λ z. Has m (members_of z)) same c.2 in
-    let by : IsMemberBy w m = (members_are_said w m).0 (contains_from_has m (members_of (w.id.system, said_by (local_of w))) said) in
-    contains_from_has m (world_graph s.world).members (by_wiring s there.joined.to w m rest.sound there.joined.there by)
+    let j : ℕ = there.joined.to in
+    let at : Has m (members_at s.world j) = subst (λ ms. Has m ms) (ap members_of same ∙ said_wired s j w rest.sound there.joined.there) c.2 in
+    contains_from_has m (world_graph s.world).members (there_member s.world j m (place_low s j w rest.sound there.joined.there) at)
 
 member_read : (s : State) (v : BridgeView) (m : Member) → IsAtRest s → IsThere s v m.system → Contains (world_graph s.world).members m → Contains (read_graph v).members m
 member_read s v m rest there k =
     let w : BridgeView = there.w in
     let list : Contents = contents_of v in
-    let by : IsMemberBy w m = by_bridge s there.joined.to w m rest.sound there.joined.there there.is (has_from_contains m (world_graph s.world).members k) in
-    let said : Has m (members_of (w.id.system, said_by (local_of w))) = has_from_contains m (members_of (w.id.system, said_by (local_of w))) ((members_are_said w m).1 by) in
+    let j : ℕ = there.joined.to in
+    let is = member_there s.world m (has_from_contains m (world_graph s.world).members k) in
+    let place : is.place ≡ j = place_from s.world.bridges rest.sound.world.systems is.place j is.within (place_low s j w rest.sound there.joined.there) (sym is.system ∙ (sym there.is ∙ sym (system_is s j w rest.sound there.joined.there))) in
+    let at : Has m (members_at s.world j) = subst (λ i. Has m (members_at s.world i)) place is.there in
+    let said : Has m (members_of (w.id.system, said_by (local_of w))) = subst (λ ms. Has m ms) (sym (said_wired s j w rest.sound there.joined.there)) at in
     let read : Has m (flat_map members_of list) = has_flat_map members_of (w.id.system, said_by (local_of w)) m list (has_read s v w rest there.joined) said in
     are_members list (IsSaid list) (filter has_inst list) m (chosen v)
     (contains_from_has m (flat_map members_of list) read, subst (IsSaid list) there.is (is_said s v w rest there.joined))

@@ -7,9 +7,11 @@ use Rattle.std.proofs.lemmas.List.Folds.{Any-from_list_any}
 use Rattle.spb_types.specs.declared.limits.TheConstants.{MOST_CUSTOMER_PORTS, MOST_ISIDS}
 use Rattle.spb_types.specs.declared.service.Attachment.{Attachment}
 use Rattle.spb_types.specs.declared.service.Isid.{Isid}
+use Rattle.spb_types.specs.declared.service.Mode.{Mode}
 use Rattle.spb_types.specs.declared.service.Vid.{Vid}
 use Rattle.spb_types.specs.declared.service.VidPlan.{VidPlan}
 use Rattle.spb_types.specs.Places.{changed_at}
+use Rattle.spb_types.specs.Service.{sends}
 use Rattle.bridge_api.specs.View.{BridgeView}
 use Rattle.bridge_api.specs.Config.{AgreesWith, different, vids_of}
 use Rattle.bridge_api.specs.Services.{attachment_of, without_customer_port}
@@ -17,8 +19,8 @@ use Rattle.bridge_api.specs.Step as comes
 use Rattle.bridge_api.specs.Step.{Input, step}
 use Rattle.bridge_api.specs.Laws.{attached_after}
 use Rattle.spb_world.specs.World.{World, Attachments, vid_of_isid, attachment_at, attached_at, IsService, IsAttachedIn, Sound}
-use Rattle.spb_world.specs.Attaching.{is_customer_port, is_attached, has_isid_room, isids_with, attach_refusal, detach_refusal, IsNewAttachment, with_attachment_at, without_attachment_at}
-use Rattle.network_model.specs.State.{CanAttachAt, IsAttachedAt, State}
+use Rattle.spb_world.specs.Attaching.{is_customer_port, is_attached, is_sending, has_isid_room, isids_with, attach_refusal, detach_refusal, IsNewAttachment, with_attachment_at, without_attachment_at}
+use Rattle.network_model.specs.State.{CanAttachAt, IsAttachedAt, IsSendingAt, State}
 use Rattle.network_model.specs.Events.{stepped, with_attached_port, attached_in_found, port_attached, port_detached}
 use Rattle.network_model.specs.Sound.{AreAttached, IsSoundState}
 use Rattle.spb_world.proofs.ListLemmas.{All-map, All-none, and-left, and-right, not-true}
@@ -78,8 +80,8 @@ some-is : {X : Type 0} (x y : X) → Some x ≡ Some y → x ≡ y
 some-is x y h = cc
 
 -- the service of an I-SID that was found is in range, and its VID is declared
-pub new_attachment : (s : State) (i port isid : ℕ) (vid : Vid) → i < length s.world.bridges → attach_refusal s.world i port isid ≡ None → vid_of_isid s.world.services isid ≡ Some vid → IsNewAttachment s.world (i, attachment_of port (record { value = isid }) vid)
-new_attachment s i port isid vid within none found =
+pub new_attachment : (s : State) (i port isid : ℕ) (vid : Vid) (mode : Mode) → i < length s.world.bridges → attach_refusal s.world i port isid ≡ None → vid_of_isid s.world.services isid ≡ Some vid → IsNewAttachment s.world (i, attachment_of port (record { value = isid }) vid mode)
+new_attachment s i port isid vid mode within none found =
     let is : IsFreePort s.world i port isid = attach_refusal_none s.world i port isid none in
     record {
       attached = record { bridge = within; port_low = is.port_low; port_high = is.port_high; service = found };
@@ -101,8 +103,8 @@ pub in_service : (w : World) (xs : Attachments) → AllByRecursion (IsAttachedIn
 in_service w [] all i = tt
 in_service w (x ∷ xs) all i = (λ e. all.0.service, in_service w xs all.1 i)
 
-pub can_attach : (s : State) (i port isid : ℕ) (vid : Vid) → IsSoundState s → attach_refusal s.world i port isid ≡ None → vid_of_isid s.world.services isid ≡ Some vid → CanAttachAt s.views i (attachment_of port (record { value = isid }) vid)
-can_attach s i port isid vid sound none found v at =
+pub can_attach : (s : State) (i port isid : ℕ) (vid : Vid) (mode : Mode) → IsSoundState s → attach_refusal s.world i port isid ≡ None → vid_of_isid s.world.services isid ≡ Some vid → CanAttachAt s.views i (attachment_of port (record { value = isid }) vid mode)
+can_attach s i port isid vid mode sound none found v at =
     record {
       attachment = record {
         port_low = is.port_low;
@@ -116,7 +118,7 @@ can_attach s i port isid vid sound none found v at =
     }
   where
     a : Attachment
-    a = attachment_of port (record { value = isid }) vid
+    a = attachment_of port (record { value = isid }) vid mode
 
     is : IsFreePort s.world i port isid
     is = attach_refusal_none s.world i port isid none
@@ -139,12 +141,19 @@ port_found xs i port taken =
     let any = Any-from_list_any (λ (a : Attachment). a.port == port) (filter_map (attachment_at i) xs) (sym (any_at (λ a. a.port == port) i xs) ∙ taken) in
     (any.1, (any.0, any.2, any.3), eqb-true any.1.port port any.4)
 
-pub taken_port : (s : State) (i port : ℕ) → IsSoundState s → is_attached s.world.attached i port ≡ true → IsAttachedAt s.views i port
-taken_port s i port sound taken v at =
-    subst (λ (attached : List Attachment). (a : Attachment) × Contains attached a × (a.port ≡ port)) (sym (sound.attached i v at)) (port_found s.world.attached i port taken)
-
 pub is_attached_port : (s : State) (i port : ℕ) → IsSoundState s → detach_refusal s.world i port ≡ None → IsAttachedAt s.views i port
-is_attached_port s i port sound none = taken_port s i port sound (detach_refusal_none s.world i port none).taken
+is_attached_port s i port sound none v at =
+    subst (λ (attached : List Attachment). (a : Attachment) × Contains attached a × (a.port ≡ port)) (sym (sound.attached i v at)) (port_found s.world.attached i port (detach_refusal_none s.world i port none).taken)
+
+-- and so is one that sends
+sender_found : (xs : Attachments) (i port : ℕ) → is_sending xs i port ≡ true → (a : Attachment) × Contains (filter_map (attachment_at i) xs) a × (a.port ≡ port) × (sends a.mode ≡ true)
+sender_found xs i port sending =
+    let any = Any-from_list_any (λ (a : Attachment). (a.port == port) && sends a.mode) (filter_map (attachment_at i) xs) (sym (any_at (λ a. (a.port == port) && sends a.mode) i xs) ∙ sending) in
+    (any.1, (any.0, any.2, any.3), eqb-true any.1.port port (and-left (any.1.port == port) (sends any.1.mode) any.4), and-right (any.1.port == port) (sends any.1.mode) any.4)
+
+pub is_sending_port : (s : State) (i port : ℕ) → IsSoundState s → is_sending s.world.attached i port ≡ true → IsSendingAt s.views i port
+is_sending_port s i port sound sending v at =
+    subst (λ (attached : List Attachment). (a : Attachment) × Contains attached a × (a.port ≡ port) × (sends a.mode ≡ true)) (sym (sound.attached i v at)) (sender_found s.world.attached i port sending)
 
 -- ---- what is attached afterwards
 
@@ -219,14 +228,14 @@ Sound-with_attached_port s i a new can sound =
     (stepped_carriers x t i refl sound.carriers) (stepped_with_metric x t i refl sound.metrics)
     (attached_after_step x t i (attached_attached s i a sound.attached))
 
-found_sound : (s : State) (i port isid : ℕ) (o : Option Vid) → vid_of_isid s.world.services isid ≡ o → i < length s.world.bridges → attach_refusal s.world i port isid ≡ None → IsSoundState s → IsSoundState (attached_in_found s i port isid o)
-found_sound s i port isid None found within none sound = sound
-found_sound s i port isid (Some vid) found within none sound =
-    Sound-with_attached_port s i (attachment_of port (record { value = isid }) vid) (new_attachment s i port isid vid within none found) (can_attach s i port isid vid sound none found) sound
+found_sound : (s : State) (i port isid : ℕ) (mode : Mode) (o : Option Vid) → vid_of_isid s.world.services isid ≡ o → i < length s.world.bridges → attach_refusal s.world i port isid ≡ None → IsSoundState s → IsSoundState (attached_in_found s i port isid mode o)
+found_sound s i port isid mode None found within none sound = sound
+found_sound s i port isid mode (Some vid) found within none sound =
+    Sound-with_attached_port s i (attachment_of port (record { value = isid }) vid mode) (new_attachment s i port isid vid mode within none found) (can_attach s i port isid vid mode sound none found) sound
 
-pub Sound-port_attached : (s : State) (i port isid : ℕ) → i < length s.world.bridges → attach_refusal s.world i port isid ≡ None → IsSoundState s → IsSoundState (port_attached s i port isid)
+pub Sound-port_attached : (s : State) (i port isid : ℕ) (mode : Mode) → i < length s.world.bridges → attach_refusal s.world i port isid ≡ None → IsSoundState s → IsSoundState (port_attached s i port isid mode)
 unfolding port_attached
-Sound-port_attached s i port isid within none sound = found_sound s i port isid (vid_of_isid s.world.services isid) refl within none sound
+Sound-port_attached s i port isid mode within none sound = found_sound s i port isid mode (vid_of_isid s.world.services isid) refl within none sound
 
 pub Sound-port_detached : (s : State) (i port : ℕ) → detach_refusal s.world i port ≡ None → IsSoundState s → IsSoundState (port_detached s i port)
 unfolding port_detached without_attachment_at

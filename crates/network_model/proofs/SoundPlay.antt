@@ -5,6 +5,7 @@ use Rattle.std.proofs.lemmas.Bool.{eqb-true}
 use Rattle.spb_types.specs.declared.address.Mac.{Mac}
 use Rattle.spb_types.specs.declared.service.SourceId.{SourceId}
 use Rattle.spb_types.specs.declared.service.Isid.{Isid}
+use Rattle.spb_types.specs.declared.service.Mode.{Mode}
 use Rattle.spb_types.specs.declared.service.Vid.{Vid}
 use Rattle.scenario.specs.declared.command.Command.{Command}
 use Rattle.scenario.specs.declared.command.Command.TheVariants as command
@@ -52,7 +53,7 @@ events_keep_sound = record {
   lose = λ k dir place s sound. Sound-lost s k dir place sound;
   double = λ k dir place s sound. Sound-doubled s k dir place sound;
   metric = λ k side m is s sound. Sound-metric_changed s k side m is sound;
-  attach = λ i port isid s may sound. Sound-port_attached s i port isid may.0 may.1 sound;
+  attach = λ i port isid mode s may sound. Sound-port_attached s i port isid mode may.0 may.1 sound;
   detach = λ i port s may sound. Sound-port_detached s i port may sound;
   enter = λ i port bytes s may sound. Sound-frame_entered s i port bytes may sound;
   down = λ k s sound. Sound-switched_off s k sound;
@@ -194,13 +195,13 @@ metric_sound s name side m sound none = metric_sound_at_found s name side m (pla
 
 -- ---- a customer port
 
-attach_sound_at_found : (s : State) (name : List ℕ) (port isid : ℕ) (o : Option ℕ) → place_of name s.world.bridges ≡ o → IsSoundState s → refusal_at_found (λ i. attach_refusal s.world i port isid) o ≡ None → IsSoundState (at_place (λ t i. port_attached t i port isid) s o)
-attach_sound_at_found s name port isid None at sound none = sound
-attach_sound_at_found s name port isid (Some i) at sound none = Sound-port_attached s i port isid (place_within name s.world.bridges i at) none sound
+attach_sound_at_found : (s : State) (name : List ℕ) (port isid : ℕ) (mode : Mode) (o : Option ℕ) → place_of name s.world.bridges ≡ o → IsSoundState s → refusal_at_found (λ i. attach_refusal s.world i port isid) o ≡ None → IsSoundState (at_place (λ t i. port_attached t i port isid mode) s o)
+attach_sound_at_found s name port isid mode None at sound none = sound
+attach_sound_at_found s name port isid mode (Some i) at sound none = Sound-port_attached s i port isid mode (place_within name s.world.bridges i at) none sound
 
-attach_sound : (s : State) (name : List ℕ) (port isid : ℕ) → IsSoundState s → named_attach_refusal s.world name port isid ≡ None → IsSoundState (at_bridge (λ t i. port_attached t i port isid) s name)
+attach_sound : (s : State) (name : List ℕ) (port isid : ℕ) (mode : Mode) → IsSoundState s → named_attach_refusal s.world name port isid ≡ None → IsSoundState (at_bridge (λ t i. port_attached t i port isid mode) s name)
 unfolding named_attach_refusal at_bridge
-attach_sound s name port isid sound none = attach_sound_at_found s name port isid (place_of name s.world.bridges) refl sound none
+attach_sound s name port isid mode sound none = attach_sound_at_found s name port isid mode (place_of name s.world.bridges) refl sound none
 
 detach_sound_at_found : (s : State) (port : ℕ) (o : Option ℕ) → IsSoundState s → refusal_at_found (λ i. detach_refusal s.world i port) o ≡ None → IsSoundState (at_place (λ t i. port_detached t i port) s o)
 detach_sound_at_found s port None sound none = sound
@@ -233,7 +234,7 @@ played_sound s (command.Vid vid ect) sound none = vid_sound s vid ect sound none
 played_sound s (command.Bridge name priority system source ports) sound none = bridge_sound s name priority system source ports sound none
 played_sound s (command.Link name a port_a b port_b cost) sound none = link_sound s name a b port_a port_b cost sound none
 played_sound s (command.Isid isid vid) sound none = isid_sound s isid vid sound none
-played_sound s (command.Attach name port isid) sound none = attach_sound s name port isid sound none
+played_sound s (command.Attach name port isid mode) sound none = attach_sound s name port isid mode sound none
 played_sound s (command.Detach name port) sound none = detach_sound s name port sound none
 played_sound s (command.Frame name port bytes) sound none = enter_sound s name port bytes sound none
 played_sound s (command.Metric name side m) sound none = metric_sound s name side m sound none

@@ -9,6 +9,7 @@ use Rattle.std.proofs.lemmas.Iterator.Adapters.{position_from-zero}
 use Rattle.std.proofs.lemmas.Slice.Eq.{bytes_eq-Decides}
 use Rattle.spb_types.specs.declared.limits.TheConstants.{MOST_CUSTOMER_PORTS, MOST_ISIDS}
 use Rattle.spb_types.specs.declared.address.Mac.{Mac}
+use Rattle.spb_types.specs.Service.{sends}
 use Rattle.spb_types.specs.declared.service.Attachment.{Attachment}
 use Rattle.spb_types.specs.declared.service.SourceId.{SourceId}
 use Rattle.bridge_api.specs.Config.{IsMetric}
@@ -20,11 +21,11 @@ use Rattle.spb_world.specs.declared.declaration.LinkEnd.{LinkEnd}
 use Rattle.spb_world.specs.World.{World, Bridges, Links, Services, names_of, things_of, place_of, vid_of_isid, attached_at, ports_at, is_between, is_at_port}
 use Rattle.spb_world.specs.Declaring.{has_vid, is_new_vid, is_vid_range, has_vid_room, is_before_bridges, is_new_name, is_new_system, is_new_source, is_address, is_bridge_address, is_bridge_range, has_bridge_room, is_free_port, is_port, is_link_range, has_link_room, is_unlinked}
 use Rattle.spb_world.specs.Services.{is_new_isid, is_isid_range, has_service_room}
-use Rattle.spb_world.specs.Attaching.{is_declared_isid, is_customer_port, is_customer_frame, is_attached, isids_with, has_isid_room}
+use Rattle.spb_world.specs.Attaching.{is_declared_isid, is_customer_port, is_customer_frame, is_attached, is_sending, isids_with, has_isid_room}
 use Rattle.spb_world.proofs.AttachedLemmas.{any_at}
 use Rattle.network_model.specs.State.{Spare, same_kind, serves, box_from, next_box}
 use Rattle.spb_world.specs.Naming.{are_declared}
-use Rattle.network_model.specs.Holding.{IsNamed, HoldsAt, HoldsAtBoth, HasLink, IsEndAt, IsVidOf, IsIsidOf, IsVid, IsIsid, IsCustomerPort, HasAttached, IsAddress, IsOwnAddress, IsBridgeInRange, HasPort, IsLinkInRange, IsFromTo}
+use Rattle.network_model.specs.Holding.{IsNamed, HoldsAt, HoldsAtBoth, HasLink, IsEndAt, IsVidOf, IsIsidOf, IsVid, IsIsid, IsCustomerPort, HasAttached, HasSending, IsAddress, IsOwnAddress, IsBridgeInRange, HasPort, IsLinkInRange, IsFromTo}
 
 -- ---- tests
 
@@ -196,6 +197,13 @@ taken_customer_port w i port = opposes (is_attached w.attached i port) (attached
 
 pub free_customer_port : (w : World) (i port : ℕ) → Decides (not (is_attached w.attached i port)) (¬ HasAttached w i port)
 free_customer_port w i port = fails (is_attached w.attached i port) (attached-is w i port)
+
+pub mute_customer_port : (w : World) (i port : ℕ) → Decides (not (is_sending w.attached i port)) (¬ HasSending w i port)
+mute_customer_port w i port =
+    fails (is_sending w.attached i port)
+    (Decides-at (is_sending w.attached i port) (list_any (λ a. (a.port == port) && sends a.mode) (attached_at w i))
+    (any_at (λ a. (a.port == port) && sends a.mode) i w.attached)
+    (any-is (λ a. (a.port == port) && sends a.mode) (λ a. (a.port ≡ port) × (sends a.mode ≡ true)) (λ a. Decides-and (a.port == port) (sends a.mode) (Decides-eqb a.port port) (true-is (sends a.mode))) (attached_at w i)))
 
 -- ---- a name, a bridge
 

@@ -1,5 +1,5 @@
--- A group frame that enters a quiet network leaves once at each other receiving port of its service that the network can
--- reach, and nowhere else.
+-- A group frame that enters a quiet network leaves once at each other receiving port of its service that the network
+-- can reach, and nowhere else.
 use Rattle.std.specs.Prelude.{◌≡◌, ℕ, ◌≤◌, List, [], ◌∷◌, ◌++◌, length, count_by, Bool, true, ◌&&◌, ◌==◌, ◌<◌, Some, slice_get}
 use Rattle.std.specs.List.{AllByRecursion}
 use Rattle.std.specs.Str.{bytes_eq}

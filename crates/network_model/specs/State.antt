@@ -15,7 +15,7 @@ use Rattle.spb_world.specs.World.{World, things_of}
 use Rattle.link_model.specs.Lanes.{lane_of, changed_frames}
 use Rattle.spb_world.specs.declared.declaration.DeclaredBridge.{DeclaredBridge}
 use Rattle.spb_types.specs.declared.service.Attachment.{Attachment}
-use Rattle.bridge_api.specs.Services.{CanAttach, IsAttachedPort}
+use Rattle.bridge_api.specs.Services.{CanAttach, IsAttachedPort, IsSendingPort}
 
 -- a box of the rack: its kind, and whether it is blank
 pub record Spare : Type 0 where
@@ -101,3 +101,7 @@ CanAttachAt views i a = (v : BridgeView) → slice_get views i ≡ Some v → Ca
 -- this customer port of the bridge at place i is attached, if there is such a bridge
 abbrev pub IsAttachedAt : List BridgeView → ℕ → ℕ → Type 0
 IsAttachedAt views i port = (v : BridgeView) → slice_get views i ≡ Some v → IsAttachedPort v port
+
+-- and sends
+abbrev pub IsSendingAt : List BridgeView → ℕ → ℕ → Type 0
+IsSendingAt views i port = (v : BridgeView) → slice_get views i ≡ Some v → IsSendingPort v port

@@ -59,7 +59,7 @@ LeadsDown w j m (k ∷ ks) c = IsLed w j m k × LeadsDown w j k ks c
 
 -- The links over which the rows lead make a tree from the bridge where the frame entered: to no bridge they lead over
 -- two links, and to that one over none. Each bridge takes frames from the source over its link of the tree. And the
--- tree leads down to each bridge with a port of the service that a walk joins to the first.
+-- tree leads down to each bridge with a receiving port of the service that a walk joins to the first.
 pub record IsTree (w : World) (j : Journey) : Type 0 where
   pub one : (k n : ℕ) (d e : Dir) (l m : DeclaredLink) → slice_get (things_of w.links) k ≡ Some l
       → slice_get (things_of w.links) n ≡ Some m → leads_over w j d l ≡ true → leads_over w j e m ≡ true

@@ -130,8 +130,9 @@ pub fn services_stay_apart()
 {}
 
 /// In a quiet network a frame with a group destination enters, and frames are delivered, in any order, until none is on
-/// its way: the frame leaves once at each other port of its service that a walk over links joins to the first, and
-/// nowhere else. So it is whatever commands led to the quiet network, at most 120,000 of them; and some do.
+/// its way: the frame leaves once at each other port of its service that receives and that a walk over links joins to
+/// the first, and nowhere else. So it is whatever commands led to the quiet network, at most 120,000 of them; and some
+/// do.
 pub fn group_frames_leave_once()
     ensures counted { ExactlyOnce }
     ensures always { NetworksDeliverOnce }

@@ -87,8 +87,8 @@ NamesBefore (Before name) = IsName name
 NamesBefore Unreached = ⊤
 
 abbrev pub ProofIsLine : Type 0
-ProofIsLine = (from to : List ℕ) (vid : ℕ) (entries : List EntryWord) → IsName from → IsName to → All NamesBefore entries
-    → HasLines 1 (proof_text from to vid entries)
+ProofIsLine = (from to : List ℕ) (vid : ℕ) (entries : List EntryWord) → IsName from → IsName to
+    → All NamesBefore entries → HasLines 1 (proof_text from to vid entries)
 
 abbrev pub YesIsLine : Type 0
 YesIsLine = (cost : ℕ) (names : List (List ℕ)) → All IsName names → HasLines 1 (check_yes_text cost names)

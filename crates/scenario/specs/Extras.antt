@@ -14,10 +14,10 @@ use Rattle.scenario.specs.declared.extra.ExtraKeyword.TheVariants.{WhatIf, Proof
 use Rattle.scenario.specs.declared.extra.Change.{Change}
 use Rattle.scenario.specs.declared.extra.Change.TheVariants.{Down, Up, Metric}
 use Rattle.scenario.specs.declared.line.TheConstants.{LINE_LIMIT}
-use Rattle.scenario.specs.Words.{is_blank, Word, words_in, rest_from}
+use Rattle.scenario.specs.Words.{is_blank, Word, words_in, Rest, rest_from, at_end}
 use Rattle.scenario.specs.Keywords.{extra_text, extra_keyword}
 use Rattle.scenario.specs.Answers.{Refuses}
-use Rattle.scenario.specs.Grammar.{a_name, a_number, a_side, an_extra, a_change, an_entry, Form, gives, may_take, one_name, read, some, ◌>>=◌}
+use Rattle.scenario.specs.Grammar.{a_name, a_number, a_side, an_extra, a_change, an_entry, Form, gives, may_take, one_name, read, some, ◌giving◌, ◌>>=◌}
 use Rattle.scenario.specs.Spelling.{SpellsForm, AreWords, bytes_of}
 
 -- ---- The grammar
@@ -113,6 +113,12 @@ ReadsExtra (Err e) reading = FailsExtra e reading
 abbrev pub GivesExtra : Result Extra LineError → Result Extra ℕ → Type 0
 GivesExtra (Ok given) reading = reading ≡ Ok given
 GivesExtra (Err e) reading = FailsExtra e (some reading)
+
+-- entries were read as far as they go, and the words that are left end the line, or else a word is refused
+abbrev pub AddsEntries : (List EntryWord → Extra) → Result (Unit {0}) LineError → List EntryWord → Rest
+    → Result Extra ℕ → Type 0
+AddsEntries given (Ok done) entries left reading = reading ≡ (at_end left giving given entries)
+AddsEntries given (Err e) entries left reading = Refuses e reading
 
 -- the entries that were read give this by the form, or else a word is refused
 abbrev pub ListsEntries : (List EntryWord → Extra) → Result (List EntryWord) LineError → Result Extra ℕ → Type 0

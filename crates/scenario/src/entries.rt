@@ -1,9 +1,9 @@
 //! The entries of a `check` line.
-ghost use Rattle.std.specs.Prelude.{◌≡◌, ◌<◌, [], ◌∷◌, ◌++◌, List, length, OnOk, IfOk};
+ghost use Rattle.std.specs.Prelude.{◌≡◌, ◌<◌, ◌-◌, [], ◌∷◌, ◌++◌, List, length, OnOk, IfOk};
 ghost use Rattle.spb_types.specs.declared.entry_word.EntryWord.{EntryWord};
 ghost use Rattle.scenario.specs.declared.extra.Extra.{Extra};
 ghost use Rattle.scenario.specs.Grammar.{read};
-ghost use Rattle.scenario.specs.Extras.{all_entries, ListsEntries};
+ghost use Rattle.scenario.specs.Extras.{more_entries, all_entries, AddsEntries, ListsEntries};
 
 use crate::error::LineError;
 use crate::words::Words;
@@ -67,19 +67,30 @@ impl Entries {
     }
 }
 
+/// Puts the entries that follow behind those that were found, until none is left or 96 are there. `Words` exactly where
+/// one of these words is no entry.
+fn read_more(words: &mut Words<'_>, found: &mut Entries) -> Result<(), LineError>
+    ensures { (given : List EntryWord → Extra) → AddsEntries given result found.new words.new
+        (read (more_entries (MOST_BRIDGES - length found.old) given found.old) words.old) }
+{
+    while found.len() < MOST_BRIDGES {
+        match words.take_more()? {
+            Some(entry) => found.push(entry),
+            None => return Ok(()),
+        }
+    }
+    Ok(())
+}
+
 /// The entries up to the line's end: at least one, and at most 96. `Words` exactly where there are fewer or more, or a
 /// word is no entry.
+#[tactic(auto, unfolding(crate::specs::Extras::all_entries))]
 pub fn read_entries(words: &mut Words<'_>) -> Result<Entries, LineError>
     ensures { (given : List EntryWord → Extra) → ListsEntries given result (read (all_entries given) words.old) }
 {
     let mut found = Entries::new();
     found.push(words.take()?);
-    while found.len() < MOST_BRIDGES {
-        match words.take_more()? {
-            Some(entry) => found.push(entry),
-            None => return Ok(found),
-        }
-    }
+    read_more(words, &mut found)?;
     words.finish()?;
     Ok(found)
 }

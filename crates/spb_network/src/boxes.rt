@@ -10,7 +10,7 @@ ghost use Rattle.bridge_api.specs.Shown.{views_of};
 ghost use Rattle.spb_types.specs.Places.{changed_at};
 ghost use Rattle.network_model.specs.Questions as question;
 ghost use Rattle.spb_network.specs.Network.{AreConfigured};
-ghost use Rattle.network_model.specs.State.{IsPortAt, CanAttachAt, IsAttachedAt};
+ghost use Rattle.network_model.specs.State.{IsPortAt, CanAttachAt, IsAttachedAt, IsSendingAt};
 
 use adjacency::Adjacency;
 use bridge_api::{Bridge, DropReason, Outbox};
@@ -56,7 +56,7 @@ pub fn hear<B: Bridge>(
     }
 }
 
-/// A customer's frame enters at a customer port of a bridge.
+/// A customer's frame enters at a customer port of a bridge, which sends.
 pub fn enter<B: Bridge>(
     boxes: &mut Vec<B>,
     i: usize,
@@ -65,7 +65,7 @@ pub fn enter<B: Bridge>(
     outbox: &mut Outbox,
 ) -> Result<(), NoMemory>
     requires made { AreConfigured B.shown boxes.old.items }
-    requires attached { IsAttachedAt (views_of B.shown boxes.old.items) i port }
+    requires sending { IsSendingAt (views_of B.shown boxes.old.items) i port }
     requires frame { IsCustomerFrame frame.now }
     ensures views { OnOk result (views_of B.shown boxes.new.items
         ≡ changed_at (step (comes.customer port frame.now)) (views_of B.shown boxes.old.items) i) }
@@ -134,7 +134,12 @@ pub fn attach<B: Bridge>(
 {
     match boxes.get_mut(i) {
         None => Ok(()),
-        Some(bridge) => bridge.attach(attachment.port, attachment.isid, attachment.vid),
+        Some(bridge) => bridge.attach(
+            attachment.port,
+            attachment.isid,
+            attachment.vid,
+            attachment.mode,
+        ),
     }
 }
 

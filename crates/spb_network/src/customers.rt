@@ -10,7 +10,7 @@ ghost use Rattle.spb_network.specs.Applying.{IsSoundNetwork};
 
 use crate::{NetworkOf, Reason, World, boxes};
 use bridge_api::{Bridge, Outbox};
-use spb_types::{Attachment, Isid, Name, NoMemory};
+use spb_types::{Attachment, Isid, Mode, Name, NoMemory};
 
 impl<B: Bridge> NetworkOf<B> {
     /// Attaches a customer port of the bridge at a place, where nothing is attached.
@@ -26,14 +26,14 @@ impl<B: Bridge> NetworkOf<B> {
         self.world.attach(place, attachment)
     }
 
-    /// Attaches a customer port of the bridge at a place to the service of an I-SID.
+    /// Attaches a customer port of the bridge at a place to the service of an I-SID, in a mode.
     #[tactic(auto, unfolding(network_model::specs::Events::port_attached))]
-    fn attach(&mut self, place: usize, port: u64, isid: u64) -> Result<(), NoMemory>
+    fn attach(&mut self, place: usize, port: u64, isid: u64, mode: Mode) -> Result<(), NoMemory>
         requires sound { IsSoundNetwork B.shown self.old }
         requires place { place < length self.old.world.bridges }
         requires accepted { attaching.attach_refusal self.old.world place port isid ≡ None }
         ensures state { OnOk result (state_of B.shown self.new
-            ≡ event.port_attached (state_of B.shown self.old) place port isid) }
+            ≡ event.port_attached (state_of B.shown self.old) place port isid mode) }
         ensures made { OnOk result (AreConfigured B.shown self.new.boxes.items) }
     {
         let Some(vid) = self.world.vid_of_isid(isid) else {
@@ -43,6 +43,7 @@ impl<B: Bridge> NetworkOf<B> {
             port: port as u16,
             isid: Isid { value: isid as u32 },
             vid,
+            mode,
         };
         self.attach_port(place, attachment)
     }
@@ -76,16 +77,22 @@ impl<B: Bridge> NetworkOf<B> {
 
     /// A customer port of a bridge is attached to a service.
     #[tactic(auto, unfolding(spb_world::specs::Naming::named_attach_refusal, network_model::specs::Play::at_bridge))]
-    pub(crate) fn play_attach(&mut self, name: Name, port: u64, isid: u64) -> Result<(), NoMemory>
+    pub(crate) fn play_attach(
+        &mut self,
+        name: Name,
+        port: u64,
+        isid: u64,
+        mode: Mode,
+    ) -> Result<(), NoMemory>
         requires sound { IsSoundNetwork B.shown self.old }
         requires accepted { refuse.named_attach_refusal self.old.world name port isid ≡ None }
         ensures state { OnOk result (state_of B.shown self.new
-            ≡ play.at_bridge (λ s i. event.port_attached s i port isid) (state_of B.shown self.old) name) }
+            ≡ play.at_bridge (λ s i. event.port_attached s i port isid mode) (state_of B.shown self.old) name) }
         ensures made { OnOk result (AreConfigured B.shown self.new.boxes.items) }
     {
         match self.world.bridge_place(name) {
             None => Ok(()),
-            Some(place) => self.attach(place, port, isid),
+            Some(place) => self.attach(place, port, isid, mode),
         }
     }
 

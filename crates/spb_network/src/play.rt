@@ -315,7 +315,12 @@ impl<B: Bridge> NetworkOf<B> {
                 cost,
             } => self.play_link(*name, *a, *port_a, *b, *port_b, *cost),
             Command::Isid { isid, vid } => self.play_isid(*isid, *vid),
-            Command::Attach { bridge, port, isid } => self.play_attach(*bridge, *port, *isid),
+            Command::Attach {
+                bridge,
+                port,
+                isid,
+                mode,
+            } => self.play_attach(*bridge, *port, *isid, *mode),
             Command::Detach { bridge, port } => self.play_detach(*bridge, *port),
             Command::Frame {
                 bridge,

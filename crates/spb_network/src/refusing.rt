@@ -139,9 +139,12 @@ impl<B: Bridge> NetworkOf<B> {
                 .world
                 .named_link_refusal(*name, *a, *port_a, *b, *port_b, *cost),
             Command::Isid { isid, vid } => self.world.isid_refusal(*isid, *vid),
-            Command::Attach { bridge, port, isid } => {
-                self.world.named_attach_refusal(*bridge, *port, *isid)
-            }
+            Command::Attach {
+                bridge,
+                port,
+                isid,
+                ..
+            } => { self.world.named_attach_refusal(*bridge, *port, *isid) }
             Command::Detach { bridge, port } => self.world.named_detach_refusal(*bridge, *port),
             Command::Path { from, to, vid } => self.world.path_refusal(*from, *to, *vid),
             Command::State

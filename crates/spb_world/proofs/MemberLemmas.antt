@@ -1,7 +1,7 @@
 -- The members of the wiring are those that what is attached makes, merged bridge by bridge.
-use Rattle.std.proofs.Common.{◌≡◌, ℕ, zero, suc, ◌+◌, ◌*◌, ◌<◌, ◌≤◌, inl, inr, Bool, true, false, ◌&&◌, eqb, List, [], ◌∷◌, ◌++◌, length, map, Contains, refl, sym, ap, ◌∙◌, subst, arith}
+use Rattle.std.proofs.Common.{◌≡◌, ℕ, zero, suc, ◌+◌, ◌*◌, ◌<◌, ◌≤◌, inl, inr, Bool, true, false, ◌&&◌, eqb, List, [], ◌∷◌, ◌++◌, length, map, refl, sym, ap, ◌∙◌, subst, arith}
 use Rattle.std.specs.Prelude.{flat_map}
-use Rattle.std.specs.List.{AllByRecursion, filter_map, list_any, range_with_len, slice_index_or}
+use Rattle.std.specs.List.{AllByRecursion, filter_map, list_any, range_with_len}
 use Rattle.std.proofs.lemmas.Bool.{eq-eqb, eqb-true, eqb-false}
 use Rattle.std.proofs.lemmas.Grind.{flat_map-append}
 use Rattle.spb_types.specs.Service.{sends, receives}
@@ -13,7 +13,8 @@ use Rattle.spb_types.specs.declared.service.Isid.{Isid}
 use Rattle.spb_types.specs.declared.service.Vid.{Vid}
 use Rattle.spb_content.specs.Members.{pair_of, pair_number, pairs_of, is_of, member_for, merged}
 use Rattle.spb_content.proofs.Ascended.{has_ascending, numbered_ascending}
-use Rattle.spb_content.proofs.Members.{Has, contains_from_has, has_from_contains, all_has, has_all, has_map, map_has, has_flat_map, flat_map_has, weaker}
+use Rattle.spb_content.proofs.Merged.{merged_for}
+use Rattle.spb_content.proofs.Members.{Has, contains_from_has, all_has, has_map, map_has, has_flat_map, flat_map_has, weaker}
 use Rattle.fdb_build.specs.Groups.{Sends, Receives}
 use Rattle.fdb_build.proofs.GroupTests.{has_any}
 use Rattle.bridge_api.specs.Own.{member_of}
@@ -118,14 +119,9 @@ pub record IsMade (system : SystemId) (attached : List Attachment) (m : Member) 
 pub made : (system : SystemId) (attached : List Attachment) (m : Member) → Has m (bridge_members system attached) → IsMade system attached m
 made system attached m h =
     let ms : List Member = map (member_of system) attached in
-    let p = map_has (member_for system ms) m (pairs_of ms) h in
-    let n = map_has pair_of p.0 ms (has_ascending pair_number p.0 (map pair_of ms) p.1) in
-    let a = map_has (member_of system) n.0 attached n.1 in
-    record {
-      by = a.0;
-      among = a.1;
-      is = p.2 ∙ (ap (member_for system ms) n.2 ∙ ap (λ (k : Member). member_for system ms (pair_of k)) a.2);
-    }
+    let f = merged_for system ms m h in
+    let a = map_has (member_of system) f.some attached f.has in
+    record { by = a.0; among = a.1; is = f.is ∙ ap (λ (k : Member). member_for system ms (pair_of k)) a.2 }
 
 -- whatever is attached makes its bridge the member of its pair
 makes : (system : SystemId) (attached : List Attachment) (a : Attachment) → HaveIsids attached → Has a attached → Has (member_for system (map (member_of system) attached) (pair_of (member_of system a))) (bridge_members system attached)
@@ -161,6 +157,13 @@ member_there w m h =
 
 pub there_member : (w : World) (i : ℕ) (m : Member) → i < length w.bridges → Has m (members_at w i) → Has m (world_members w)
 there_member w i m within h = has_flat_map (members_at w) i m (range_with_len 0 (length w.bridges)) (has_place 0 (length w.bridges) i (omega arith) (omega (arith, within))) h
+
+-- its I-SID is in range
+pub member_isid : (w : World) (m : Member) → Sound w → Has m (world_members w) → m.isid.value ≤ GREATEST_ISID
+member_isid w m sound h =
+    let at = member_there w m h in
+    subst (λ (k : Member). k.isid.value ≤ GREATEST_ISID) (sym at.made.is)
+    (all_has (λ (a : Attachment). a.isid.value ≤ GREATEST_ISID) at.made.by (attached_at w at.place) (isids_at w at.place sound) at.made.among)
 
 -- where a port of a bridge sends, the bridge sends to its service
 pub port_sends : (w : World) (i : ℕ) (a : Attachment) → Sound w → i < length w.bridges → Has a (attached_at w i) → sends a.mode ≡ true → Sends (world_graph w) a.isid a.vid (system_at w.bridges i)

@@ -43,7 +43,8 @@ gone old new = filter (λ r. not (is_row_in r (rows_of new))) (rows_of old)
 abbrev pub change_at : ℕ → Bool → TableRow → Change
 change_at i added r = record { bridge = i; added = added; row = r }
 
--- what changes in the tables of the bridge at place i, from one world to another: the rows that go, then those that come
+-- what changes in the tables of the bridge at place i from one world to another: the rows that go, then those that
+-- come
 abbrev pub changes_at : World → World → ℕ → List Change
 changes_at w u i = map (change_at i false) (gone (wired_tables w i) (wired_tables u i))
     ++ map (change_at i true) (gone (wired_tables u i) (wired_tables w i))

@@ -32,4 +32,5 @@ added_at w c i = gone (wired_tables (with_change w c) i) (wired_tables w i)
 abbrev pub RowsGoAndCome : Type 0
 RowsGoAndCome = (w : World) (c : Command) (i : ℕ) (r : TableRow)
     → is_row_in r (rows_of (wired_tables (with_change w c) i))
-    ≡ ((is_row_in r (rows_of (wired_tables w i)) && not (is_row_in r (removed_at w c i))) || is_row_in r (added_at w c i))
+    ≡ ((is_row_in r (rows_of (wired_tables w i)) && not (is_row_in r (removed_at w c i)))
+    || is_row_in r (added_at w c i))

@@ -4,7 +4,9 @@ ghost use Rattle.std.specs.Prelude.{◌≡◌, false};
 use adjacency::Adjacency;
 use bridge_api::{Bridge, BridgeConfig, DropReason, Kind, Outbox};
 use lsdb::Held;
-use spb_types::{GroupRow, Isid, Mac, NoMemory, Path, PortSet, SystemId, Tables, UnicastRow, Vid};
+use spb_types::{
+    GroupRow, Isid, Mac, Mode, NoMemory, Path, PortSet, SystemId, Tables, UnicastRow, Vid,
+};
 
 /// A bridge that asks another for its tables, and then for each of their rows apart, and for the path of each unicast
 /// row. Where an answer isn't that row, or there is no path, it says `NoMemory`, which ends the run.
@@ -103,8 +105,8 @@ impl<B: Bridge> Bridge for AskingBox<B> {
         self.bridge.set_metric(port, metric)
     }
 
-    fn attach(&mut self, port: u16, isid: Isid, vid: Vid) -> Result<(), NoMemory> {
-        self.bridge.attach(port, isid, vid)
+    fn attach(&mut self, port: u16, isid: Isid, vid: Vid, mode: Mode) -> Result<(), NoMemory> {
+        self.bridge.attach(port, isid, vid, mode)
     }
 
     fn detach(&mut self, port: u16) -> Result<(), NoMemory> {

@@ -5,7 +5,7 @@ use adjacency::Adjacency;
 use bridge_api::{Bridge, BridgeConfig, DropReason, Kind, Outbox};
 use lsdb::Held;
 use plain_bridge::PlainBridge;
-use spb_types::{Isid, Mac, NoMemory, Path, PortSet, SystemId, Tables, Vid};
+use spb_types::{Isid, Mac, Mode, NoMemory, Path, PortSet, SystemId, Tables, Vid};
 use std::alloc::Global;
 
 /// A plain bridge that answers `NoMemory` at its second tick, and is failed from then on.
@@ -94,11 +94,11 @@ impl Bridge for FailingBox {
         self.bridge.set_metric(port, metric)
     }
 
-    fn attach(&mut self, port: u16, isid: Isid, vid: Vid) -> Result<(), NoMemory> {
+    fn attach(&mut self, port: u16, isid: Isid, vid: Vid, mode: Mode) -> Result<(), NoMemory> {
         if self.failed {
             return Err(NoMemory);
         }
-        self.bridge.attach(port, isid, vid)
+        self.bridge.attach(port, isid, vid, mode)
     }
 
     fn detach(&mut self, port: u16) -> Result<(), NoMemory> {

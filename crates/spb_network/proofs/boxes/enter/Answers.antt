@@ -32,6 +32,6 @@ returns-in-Some-clause-left g c =
     on_ok c.customer.result (λ e. some_more (left_by (comes.customer c.args.port c.args.frame.now)) c.args.outbox.now.left _ (views_of g.B.Bridge.shown c.args.boxes.now.items) c.args.i (view_in g.B.Bridge.shown c.in-Some.bridge.now)
     (get-map (view_in g.B.Bridge.shown) c.args.boxes.now.items c.args.i c.in-Some.bridge.now (lent _ _ _ _ c.get_mut.ensures.item c.in-Some.is)) (ap (λ outbox. outbox.left) e)) c.customer.ensures.sent
 
-pub customer-requires-clause-attached : goal.customer-requires-clause-attached
-customer-requires-clause-attached g c not_failed =
-    c.requires.attached (view_in g.B.Bridge.shown c.in-Some.bridge.now) (get-map (view_in g.B.Bridge.shown) c.args.boxes.now.items c.args.i c.in-Some.bridge.now (lent _ _ _ _ c.get_mut.ensures.item c.in-Some.is))
+pub customer-requires-clause-sending : goal.customer-requires-clause-sending
+customer-requires-clause-sending g c not_failed =
+    c.requires.sending (view_in g.B.Bridge.shown c.in-Some.bridge.now) (get-map (view_in g.B.Bridge.shown) c.args.boxes.now.items c.args.i c.in-Some.bridge.now (lent _ _ _ _ c.get_mut.ensures.item c.in-Some.is))

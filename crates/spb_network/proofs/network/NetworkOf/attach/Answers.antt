@@ -22,10 +22,10 @@ pub attach_port-requires-clause-new : goal.attach_port-requires-clause-new
 attach_port-requires-clause-new g c =
     let s : State = state_of g.B.Bridge.shown c.args.self.now in
     let found : vid_of_isid s.world.services c.args.isid ≡ Some c.in-Some.vid = sym c.vid_of_isid.ensures ∙ c.in-Some.is in
-    new_attachment s c.args.place c.args.port c.args.isid c.in-Some.vid c.requires.place c.requires.accepted found
+    new_attachment s c.args.place c.args.port c.args.isid c.in-Some.vid c.args.mode c.requires.place c.requires.accepted found
 
 pub attach_port-requires-clause-can : goal.attach_port-requires-clause-can
 attach_port-requires-clause-can g c =
     let s : State = state_of g.B.Bridge.shown c.args.self.now in
     let found : vid_of_isid s.world.services c.args.isid ≡ Some c.in-Some.vid = sym c.vid_of_isid.ensures ∙ c.in-Some.is in
-    can_attach s c.args.place c.args.port c.args.isid c.in-Some.vid c.requires.sound.state c.requires.accepted found
+    can_attach s c.args.place c.args.port c.args.isid c.in-Some.vid c.args.mode c.requires.sound.state c.requires.accepted found

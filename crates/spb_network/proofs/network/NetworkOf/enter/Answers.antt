@@ -5,7 +5,7 @@ use Rattle.bridge_api.specs.Step.{sent, left_by}
 use Rattle.spb_network.specs.Network.{state_of, AreConfigured}
 use Rattle.spb_world.proofs.BoxLemmas.{on_ok}
 use Rattle.spb_network.proofs.SendLemmas.{stepped-moved}
-use Rattle.network_model.proofs.SoundAttaching.{taken_port}
+use Rattle.network_model.proofs.SoundAttaching.{is_sending_port}
 use Rattle.network_model.proofs.SoundEntering.{entry_refusal_none}
 use Rattle.spb_network.proofs.network.NetworkOf.enter.Goals as goal
 
@@ -14,9 +14,9 @@ overflow_cast-port g c =
     let is = entry_refusal_none c.args.self.now.world c.args.place c.args.port c.args.frame.now c.requires.accepted in
     omega (arith, is.port_high)
 
-pub enter-requires-clause-attached : goal.enter-requires-clause-attached
-enter-requires-clause-attached g c =
-    taken_port (state_of g.B.Bridge.shown c.args.self.now) c.args.place c.args.port c.requires.sound.state (entry_refusal_none c.args.self.now.world c.args.place c.args.port c.args.frame.now c.requires.accepted).taken
+pub enter-requires-clause-sending : goal.enter-requires-clause-sending
+enter-requires-clause-sending g c =
+    is_sending_port (state_of g.B.Bridge.shown c.args.self.now) c.args.place c.args.port c.requires.sound.state (entry_refusal_none c.args.self.now.world c.args.place c.args.port c.args.frame.now c.requires.accepted).sending
 
 pub enter-requires-clause-frame : goal.enter-requires-clause-frame
 enter-requires-clause-frame g c = (entry_refusal_none c.args.self.now.world c.args.place c.args.port c.args.frame.now c.requires.accepted).frame
