@@ -1,2 +1,3 @@
 pub mod SecondsSent
 pub mod FramesHeard
+pub mod BroughtIds
