@@ -1,3 +1,4 @@
 pub mod SecondsSent
 pub mod FramesHeard
 pub mod BroughtIds
+pub mod SentAtPorts
