@@ -1,0 +1,4 @@
+pub mod SecondsSent
+pub mod FramesHeard
+pub mod BroughtIds
+pub mod SentAtPorts
