@@ -3,3 +3,4 @@ pub mod FramesHeard
 pub mod BroughtIds
 pub mod SentAtPorts
 pub mod CalmSeconds
+pub mod LivedLsps
