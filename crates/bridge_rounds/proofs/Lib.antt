@@ -2,3 +2,5 @@ pub mod SecondsSent
 pub mod FramesHeard
 pub mod BroughtIds
 pub mod SentAtPorts
+pub mod CalmSeconds
+pub mod LivedLsps
