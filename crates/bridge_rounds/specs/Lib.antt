@@ -1,1 +1,4 @@
 pub mod Inbox
+pub mod Mail
+pub mod Hellos
+pub mod Versions

@@ -3,3 +3,10 @@
 //!
 //! There is no code here: each law is the contract of a function that does nothing. The laws of settling stand on them.
 #![tactic(auto)]
+
+pub use inbox::{
+    bridges_last_through_rounds, hellos_move_adjacencies, neighbours_keep_up,
+    versions_come_by_claims,
+};
+
+mod inbox;
