@@ -1,0 +1,2 @@
+pub mod Folds
+mod MailSound

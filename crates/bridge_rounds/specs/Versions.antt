@@ -1,6 +1,6 @@
 -- What versions a bridge holds after all frames of a round, and how far the neighbour at a port may be behind
 -- (ISO/IEC 10589, 7.3.15 and 7.3.16).
-use Rattle.std.specs.Prelude.{◌≡◌, ◌≢◌, ◌⊎◌, ℕ, ◌≤◌, List, length, true, false, Option, Contains, ⊥}
+use Rattle.std.specs.Prelude.{◌≡◌, ◌≢◌, ◌⊎◌, ℕ, ◌≤◌, List, length, true, false, Option, Contains}
 use Rattle.std.specs.FinMap.{get}
 use Rattle.spb_types.specs.declared.address.LspId.{LspId}
 use Rattle.spb_types.specs.Ports.{has}
