@@ -1,2 +1,5 @@
 pub mod Folds
 mod MailSound
+mod KeptPorts
+mod HelloMoves
+mod Towards
