@@ -3,3 +3,5 @@ mod MailSound
 mod KeptPorts
 mod HelloMoves
 mod Towards
+mod AtMost
+mod ComeFrom

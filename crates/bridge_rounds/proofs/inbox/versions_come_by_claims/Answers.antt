@@ -1,0 +1,9 @@
+use Rattle.bridge_rounds.proofs.AtMost.{at_most_stands}
+use Rattle.bridge_rounds.proofs.ComeFrom.{versions_come_from}
+use Rattle.bridge_rounds.proofs.inbox.versions_come_by_claims.Goals as goal
+
+pub returns-clause-stands : goal.returns-clause-stands
+returns-clause-stands c = at_most_stands
+
+pub returns-clause-come : goal.returns-clause-come
+returns-clause-come c = versions_come_from
