@@ -5,3 +5,7 @@ mod HelloMoves
 mod Towards
 mod AtMost
 mod ComeFrom
+pub mod SecondsSent
+pub mod FramesHeard
+pub mod BroughtIds
+pub mod SentAtPorts

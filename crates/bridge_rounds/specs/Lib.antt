@@ -2,3 +2,5 @@ pub mod Inbox
 pub mod Mail
 pub mod Hellos
 pub mod Versions
+pub mod Seconds
+pub mod Hearing
