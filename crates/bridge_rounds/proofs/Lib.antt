@@ -9,3 +9,5 @@ pub mod SecondsSent
 pub mod FramesHeard
 pub mod BroughtIds
 pub mod SentAtPorts
+mod MailFits
+mod LspHeld
