@@ -3,3 +3,7 @@
 //!
 //! There is no code here: each law is the contract of a function that does nothing. The laws of settling stand on them.
 #![tactic(auto)]
+
+pub use flags::{equal_claims_settle_flags, lsps_are_acknowledged};
+
+mod flags;
