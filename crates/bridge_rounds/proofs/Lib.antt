@@ -1,1 +1,5 @@
 pub mod FlagClaims
+pub mod FlagFrames
+pub mod FlagHellos
+pub mod FlagSteps
+pub mod FlagFolds
