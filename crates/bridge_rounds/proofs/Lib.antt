@@ -3,3 +3,4 @@ pub mod FlagFrames
 pub mod FlagHellos
 pub mod FlagSteps
 pub mod FlagFolds
+pub mod FlagAcked
