@@ -4,3 +4,8 @@ pub mod FlagHellos
 pub mod FlagSteps
 pub mod FlagFolds
 pub mod FlagAcked
+pub mod Folds
+mod MailSound
+mod KeptPorts
+mod HelloMoves
+mod Towards

@@ -1,2 +1,5 @@
 pub mod Inbox
 pub mod FlagLaws
+pub mod Mail
+pub mod Hellos
+pub mod Versions

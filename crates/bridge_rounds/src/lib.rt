@@ -7,3 +7,9 @@
 pub use flags::{equal_claims_settle_flags, lsps_are_acknowledged};
 
 mod flags;
+pub use inbox::{
+    bridges_last_through_rounds, hellos_move_adjacencies, neighbours_keep_up,
+    versions_come_by_claims,
+};
+
+mod inbox;
