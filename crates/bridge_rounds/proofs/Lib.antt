@@ -9,3 +9,6 @@ mod MailSound
 mod KeptPorts
 mod HelloMoves
 mod Towards
+pub mod SecondsSent
+pub mod FramesHeard
+pub mod BroughtIds
