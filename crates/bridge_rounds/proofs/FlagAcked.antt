@@ -37,9 +37,11 @@ use Rattle.bridge_api.specs.Laws.{IsSoundView, claims_said}
 use Rattle.spb_types.specs.declared.drop_reason.DropReason.TheVariants as drop
 use Rattle.bridge_api.proofs.Certified.{steps_keep_bridge}
 use Rattle.bridge_rounds.specs.Inbox.{Inbox, heard_all}
-use Rattle.bridge_rounds.specs.FlagLaws.{HasSsn, ClaimsOnly, HearsAt, ClaimsAgree}
+use Rattle.bridge_rounds.specs.Mail.{HoldsOn, HasRoom}
+use Rattle.bridge_rounds.specs.FlagLaws.{HasSsn, ClaimsOnly, HearsAt, ClaimsAgree, LspIsAcked}
 use Rattle.bridge_rounds.proofs.FlagClaims.{IsAckedAt, acked_in, unanswered}
 use Rattle.bridge_rounds.proofs.FlagSteps.{in_up, IsUpPort, up_port, heard_there, after_lsp, when}
+use Rattle.bridge_rounds.proofs.MailFits.{mail_fits}
 use Rattle.bridge_rounds.proofs.FlagFolds.{up_now, next_hears, first_rises, all_rise, first_stays, later_only, first_only, stays_acked}
 
 -- ---- one LSP
@@ -148,3 +150,13 @@ module _ (p : ℕ) (n : End) (l : LspValue) (a : Version) (some : a ≢ Absent) 
           subst (λ (g : ℕ × List ℕ). HasSsn (heard_all (g ∷ fs) v) l.id p) (sym e)
           (acked_first v bytes fs (subst (λ (g : ℕ × List ℕ). HearsAt p n (g ∷ fs) v) e hears) (subst (λ (g : ℕ × List ℕ). HasRoomOn l.id (g ∷ fs) v) e room) is
           (subst (λ (g : ℕ × List ℕ). ClaimsOnly p l.id a (g ∷ fs)) e only) (subst (λ (g : ℕ × List ℕ). version_at (heard_all (g ∷ fs) v).database l.id ≡ a) e last) own_same)
+
+-- ---- where there is room for all that comes
+
+room_from : (x : LspId) (fs : Inbox) (v : BridgeView) → HoldsOn HasRoom fs v → HasRoomOn x fs v
+room_from x [] v holds = tt
+room_from x (f ∷ fs) v holds = (holds.0 x, room_from x fs (step (frame f.0 f.1) v) holds.1)
+
+pub lsp_is_acked : LspIsAcked
+lsp_is_acked ids p n v fs bytes l a hears mail within few there is only last some own_same =
+    all_acked p n l a some v bytes fs hears (room_from l.id fs v (mail_fits ids v fs hears.sound mail within few).0) there is only last own_same

@@ -12,3 +12,6 @@ mod Towards
 pub mod SecondsSent
 pub mod FramesHeard
 pub mod BroughtIds
+pub mod LinkFlags
+pub mod FlaggedLsps
+pub mod LinkFrames

@@ -9,6 +9,7 @@ pub use inbox::{
     bridges_last_through_rounds, hellos_move_adjacencies, neighbours_keep_up,
     versions_come_by_claims,
 };
+pub use links::{links_fall_silent, links_tell_what_is_held};
 pub use hearing::{
     control_is_silent, frames_are_silent, frames_keep_living, rounds_hold_ids, spent_stays,
 };
@@ -20,3 +21,4 @@ mod flags;
 mod inbox;
 mod hearing;
 mod seconds;
+mod links;
