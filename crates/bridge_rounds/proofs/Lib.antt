@@ -15,3 +15,8 @@ pub mod BroughtIds
 pub mod LinkFlags
 pub mod FlaggedLsps
 pub mod LinkFrames
+mod AtMost
+mod ComeFrom
+pub mod SentAtPorts
+mod MailFits
+mod LspHeld
