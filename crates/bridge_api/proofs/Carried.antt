@@ -21,18 +21,9 @@ use Rattle.itag_frames.specs.Backbone.{CanBeCarried, backbone_in, backbone_bytes
 use Rattle.itag_frames.specs.Classify.{content_in}
 use Rattle.itag_frames.proofs.BackboneLaws.{encapsulated_again, encapsulated_is_no_control, opened_can_be_carried}
 use Rattle.spb_types.specs.declared.drop_reason.DropReason.TheVariants as drop
-use Rattle.bridge_api.specs.Parsing.{Parsed, is_octets, parsed, by_content, by_pdu, by_three_way, by_reading}
+use Rattle.bridge_api.specs.Parsing.{Parsed, is_octets, parsed, by_content, by_pdu, by_three_way, by_reading, is_carrying}
 use Rattle.bridge_api.specs.Parsing as parsing
 use Rattle.bridge_api.proofs.Octets.{AreSmall, small_octets}
-
--- whether a frame is taken for one that carries a customer's
-abbrev pub is_carrying : Parsed → Bool
-is_carrying (parsing.dropped reason) = false
-is_carrying (parsing.hello h way) = false
-is_carrying (parsing.lsp l) = false
-is_carrying (parsing.csnp c) = false
-is_carrying (parsing.psnp s) = false
-is_carrying (parsing.customer da sa vid isid f) = true
 
 -- ---- a PDU carries none
 

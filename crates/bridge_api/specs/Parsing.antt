@@ -1,5 +1,5 @@
 -- What a frame is taken for, before the bridge that hears it is looked at.
-use Rattle.std.specs.Prelude.{ℕ, List, Bool, Option, Some, None, is_some, Result, Ok, Err, slice_get, nat_lt, if◌then◌else◌}
+use Rattle.std.specs.Prelude.{ℕ, List, Bool, true, false, Option, Some, None, is_some, Result, Ok, Err, slice_get, nat_lt, if◌then◌else◌}
 use Rattle.std.specs.List.{list_all}
 use Rattle.spb_types.specs.declared.address.Mac.{Mac}
 use Rattle.spb_types.specs.declared.service.Vid.{Vid}
@@ -56,6 +56,15 @@ is_octets frame = list_all (λ b. nat_lt b 256) frame
 
 unfoldable pub parsed : List ℕ → Parsed
 parsed frame = if is_octets frame then by_content (content_in frame) else dropped drop.Frame
+
+-- whether a frame is taken for one that carries a customer's
+abbrev pub is_carrying : Parsed → Bool
+is_carrying (dropped reason) = false
+is_carrying (hello h way) = false
+is_carrying (lsp l) = false
+is_carrying (csnp c) = false
+is_carrying (psnp s) = false
+is_carrying (customer da sa vid isid f) = true
 
 -- the hello that a frame was taken for, with its three-way adjacency
 abbrev pub hello_in : Parsed → Option (HelloValue × ThreeWay)

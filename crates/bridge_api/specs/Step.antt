@@ -1,5 +1,5 @@
 -- One call of a bridge: what comes to it, the bridge afterwards, and what it sends.
-use Rattle.std.specs.Prelude.{◌≡◌, ℕ, List, [], ◌++◌, take, Bool}
+use Rattle.std.specs.Prelude.{◌≡◌, ◌==◌, ℕ, List, [], ◌∷◌, ◌++◌, take, Bool, if◌then◌else◌}
 use Rattle.spb_types.specs.declared.service.Attachment.{Attachment}
 use Rattle.forwarding.specs.declared.moved.Moved.{Moved}
 use Rattle.bridge_api.specs.declared.outbox.Outbox.{Outbox}
@@ -38,6 +38,11 @@ sent (metric p m) v = []
 sent (attach a) v = []
 sent (detach p) v = []
 sent (customer p bytes) v = (moved_by_entry p bytes v).wire
+
+-- those of the frames that are sent at a port, in order
+abbrev pub frames_at : ℕ → List (ℕ × List ℕ) → List (List ℕ)
+frames_at p [] = []
+frames_at p (s ∷ ss) = if s.0 == p then s.1 ∷ frames_at p ss else frames_at p ss
 
 -- the customers' frames that leave, each with the number of its customer port
 abbrev pub left_by : Input → BridgeView → List (ℕ × List ℕ)

@@ -31,7 +31,7 @@ use Rattle.bridge_api.specs.View.{BridgeView, port_at, is_port_up}
 use Rattle.bridge_api.specs.Tables.{own_tables}
 use Rattle.bridge_api.specs.Config.{AgreesWith, ArePairwise, configured}
 use Rattle.bridge_api.specs.Customers.{tenant_of, with_learned, carried_by, after_entry, moved_as, moved_at, moved_by_entry, moved_by_receive}
-use Rattle.bridge_api.specs.Parsing.{Parsed, parsed}
+use Rattle.bridge_api.specs.Parsing.{Parsed, parsed, is_carrying}
 use Rattle.bridge_api.specs.Parsing as parsing
 use Rattle.bridge_api.specs.Hearing.{after_receive}
 use Rattle.bridge_api.specs.Services.{with_port_forgotten}
@@ -40,7 +40,7 @@ use Rattle.bridge_api.specs.Step.{Input, second, frame, carrier, metric, attach,
 use Rattle.bridge_api.specs.Laws.{IsSoundView}
 use Rattle.bridge_laws.specs.Apart.{Brings, CarriesEntered, LeavesEntered, SentHasEntered, LeftHasEntered, ConfiguredIsPlaced, StepsKeepPlaces}
 use Rattle.bridge_api.proofs.Attached.{with_attached_after}
-use Rattle.bridge_api.proofs.Carried.{is_carrying, control_carries_none, encapsulated_is_taken}
+use Rattle.bridge_api.proofs.Carried.{control_carries_none, encapsulated_is_taken}
 use Rattle.bridge_api.proofs.Certified.{step_rest}
 use Rattle.bridge_api.proofs.Changes.{frame_learns, nothing_new, from_customer}
 use Rattle.bridge_api.proofs.Learned.{learned_first}

@@ -16,7 +16,7 @@ use Rattle.lsdb.specs.Database.{version_at}
 use Rattle.lsdb.specs.Certificate.{Claim, IsClaimed}
 use Rattle.flooding.specs.Own.{IsOwnNumber}
 use Rattle.bridge_api.specs.View.{BridgeView}
-use Rattle.bridge_api.specs.Step.{Input, second, step, sent}
+use Rattle.bridge_api.specs.Step.{Input, second, step, sent, frames_at}
 use Rattle.bridge_api.specs.Laws.{IsSoundView}
 use Rattle.bridge_laws.specs.Counting as counting
 use Rattle.bridge_laws.specs.Counting.{Answered, is_claiming, gain_of}
@@ -24,7 +24,6 @@ use Rattle.spb_world.specs.declared.declaration.DeclaredLink.{DeclaredLink}
 use Rattle.network_model.specs.State.{State, links_of}
 use Rattle.spb_world.specs.Links.{near_end}
 use Rattle.network_model.specs.Events.{ticked}
-use Rattle.network_model.specs.DeliveryLaws.{frames_at}
 use Rattle.network_model.specs.Counted.{IsCopy, is_held, IsBound, hellos_in, hellos_to}
 use Rattle.spb_world.proofs.BoxLemmas.{All-get}
 use Rattle.network_model.proofs.BridgeLaws.{one_hello, steps_originate}

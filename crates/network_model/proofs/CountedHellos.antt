@@ -14,7 +14,8 @@ use Rattle.bridge_api.specs.Parsing.{is_hello}
 use Rattle.spb_world.specs.declared.declaration.DeclaredLink.{DeclaredLink}
 use Rattle.spb_world.specs.World.{is_between, AreApart, AllApart}
 use Rattle.spb_world.specs.Links.{near_end, far_end}
-use Rattle.network_model.specs.DeliveryLaws.{frames_at, pushed_all}
+use Rattle.bridge_api.specs.Step.{frames_at}
+use Rattle.network_model.specs.DeliveryLaws.{pushed_all}
 use Rattle.network_model.specs.Counted.{hellos_in, hellos_along, hellos_to}
 use Rattle.spb_world.proofs.BoxLemmas.{All-get}
 

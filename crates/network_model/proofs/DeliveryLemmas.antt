@@ -7,7 +7,7 @@ use Rattle.link_model.specs.Lane.{Frame}
 use Rattle.spb_types.specs.declared.link.Dir.{Dir}
 use Rattle.spb_types.specs.declared.link.Dir.TheVariants.{Ab, Ba}
 use Rattle.bridge_api.specs.View.{BridgeView}
-use Rattle.bridge_api.specs.Step.{Input, frame, sent}
+use Rattle.bridge_api.specs.Step.{Input, frame, sent, frames_at}
 use Rattle.spb_world.specs.declared.declaration.DeclaredLink.{DeclaredLink}
 use Rattle.spb_world.specs.declared.reason.Reason.{Reason}
 use Rattle.spb_world.specs.declared.reason.Reason.TheVariants.{NoFrame}
@@ -21,7 +21,7 @@ use Rattle.spb_world.specs.Naming.{refusal_at_found}
 use Rattle.network_model.specs.Refusing.{frame_refusal}
 use Rattle.network_model.specs.Play.{at_place, at_link}
 use Rattle.network_model.specs.Sound.{IsSoundState}
-use Rattle.network_model.specs.DeliveryLaws.{frames_at, pushed_all, IsOneStep, AreSent, IsDelivery, FramesAreDelivered, IsDeliveryOf, DeliverDelivers}
+use Rattle.network_model.specs.DeliveryLaws.{pushed_all, IsOneStep, AreSent, IsDelivery, FramesAreDelivered, IsDeliveryOf, DeliverDelivers}
 use Rattle.network_model.proofs.FitsLemmas.{length-changed, link_there}
 use Rattle.network_model.proofs.SoundLane.{some-is}
 use Rattle.network_model.proofs.SentLanes.{lane_here, lane_beside, stepped_once, stepped_here, stepped_beside, stepped_rest, stepped_outs}

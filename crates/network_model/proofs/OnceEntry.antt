@@ -20,14 +20,14 @@ use Rattle.forwarding.specs.Receiving.{IsReceivingTo}
 use Rattle.forwarding.specs.Tenant.{each_with}
 use Rattle.bridge_api.specs.View.{BridgeView}
 use Rattle.bridge_api.specs.Customers.{after_entry}
-use Rattle.bridge_api.specs.Step.{Input, customer, sent, left_by}
+use Rattle.bridge_api.specs.Step.{Input, customer, sent, left_by, frames_at}
 use Rattle.network_model.specs.declared.answer.Out.{Out}
 use Rattle.spb_world.specs.declared.declaration.DeclaredLink.{DeclaredLink}
 use Rattle.spb_world.specs.World.{World, IsLink, names_of, attached_at, wired_tables}
 use Rattle.network_model.specs.State.{State, links_of, lane_at}
 use Rattle.spb_world.specs.Links.{near_end, far_end}
 use Rattle.network_model.specs.Events.{outs_at, stepped}
-use Rattle.network_model.specs.DeliveryLaws.{IsOneStep, frames_at, pushed_all}
+use Rattle.network_model.specs.DeliveryLaws.{IsOneStep, pushed_all}
 use Rattle.network_model.specs.Sound.{IsSoundState}
 use Rattle.network_model.specs.Quiet.{AreEmpty}
 use Rattle.network_model.specs.Once.{IsReceivingAt, IsRight, left_at}

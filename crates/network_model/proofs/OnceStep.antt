@@ -26,7 +26,7 @@ use Rattle.bridge_api.specs.Tables.{own_tables}
 use Rattle.bridge_api.specs.Customers.{with_learned}
 use Rattle.bridge_api.specs.Parsing.{parsed}
 use Rattle.bridge_api.specs.Parsing as parsing
-use Rattle.bridge_api.specs.Step.{frame, step, sent, left_by}
+use Rattle.bridge_api.specs.Step.{frame, step, sent, left_by, frames_at}
 use Rattle.network_model.specs.declared.answer.Out.{Out}
 use Rattle.spb_world.specs.declared.declaration.DeclaredLink.{DeclaredLink}
 use Rattle.spb_world.specs.declared.declaration.LinkEnd.{LinkEnd}
@@ -34,7 +34,7 @@ use Rattle.spb_world.specs.World.{World, IsLink, names_of, things_of, ports_at, 
 use Rattle.network_model.specs.State.{State, links_of, lane_at}
 use Rattle.spb_world.specs.Links.{is_live, near_end, far_end, lane_out}
 use Rattle.network_model.specs.Events.{outs_at, delivered}
-use Rattle.network_model.specs.DeliveryLaws.{frames_at, pushed_all, IsDelivery}
+use Rattle.network_model.specs.DeliveryLaws.{pushed_all, IsDelivery}
 use Rattle.network_model.specs.Sound.{IsSoundState}
 use Rattle.network_model.specs.Truth.{AreLinked, IsWalk}
 use Rattle.network_model.specs.Once.{IsReceivingAt, IsRight, left_at}

@@ -6,7 +6,7 @@ use Rattle.link_model.specs.Lane.{Frame, pushed}
 use Rattle.spb_types.specs.declared.link.Dir.{Dir}
 use Rattle.spb_types.specs.declared.link.Dir.TheVariants.{Ab, Ba}
 use Rattle.bridge_api.specs.View.{BridgeView}
-use Rattle.bridge_api.specs.Step.{Input, step, sent, left_by}
+use Rattle.bridge_api.specs.Step.{Input, step, sent, left_by, frames_at}
 use Rattle.spb_world.specs.declared.declaration.DeclaredLink.{DeclaredLink}
 use Rattle.link_model.specs.declared.lanes.LinkLanes.{LinkLanes}
 use Rattle.link_model.specs.declared.lanes.LaneId.{LaneId}
@@ -17,7 +17,7 @@ use Rattle.spb_types.specs.Places.{changed_at}
 use Rattle.network_model.specs.State.{State, links_of, with_frames}
 use Rattle.spb_world.specs.Links.{is_live, near_end, lane_out}
 use Rattle.network_model.specs.Events.{sent_over, sent_all, outs_at, left_all, stepped}
-use Rattle.network_model.specs.DeliveryLaws.{frames_at, pushed_all, IsOneStep}
+use Rattle.network_model.specs.DeliveryLaws.{pushed_all, IsOneStep}
 use Rattle.network_model.proofs.FitsLemmas.{alike_sent_over}
 use Rattle.network_model.proofs.SoundLane.{some-is}
 use Rattle.spb_world.proofs.SoundLaneIds.{lane_of_end, LeadsFrom, lane_leads}

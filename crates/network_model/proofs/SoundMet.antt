@@ -13,7 +13,7 @@ use Rattle.bridge_api.specs.declared.config.BridgeConfig.{BridgeConfig}
 use Rattle.bridge_api.specs.View.{BridgeView}
 use Rattle.bridge_api.specs.Config.{first_life, configured}
 use Rattle.bridge_api.specs.Parsing.{Parsed}
-use Rattle.bridge_api.specs.Step.{second, frame, carrier, metric, step, sent}
+use Rattle.bridge_api.specs.Step.{second, frame, carrier, metric, step, sent, frames_at}
 use Rattle.bridge_api.specs.Laws.{IsSoundView, IsSent, claims_said, first_of}
 use Rattle.bridge_laws.specs.Few.{HoldsFew}
 use Rattle.bridge_laws.proofs.FewHeld.{configured_holds_few, steps_hold_few}
@@ -31,7 +31,7 @@ use Rattle.network_model.specs.Refusing.{declared_refusal, frame_refusal, refusa
 use Rattle.spb_world.specs.Naming.{named_link_refusal, unnamed_refusal}
 use Rattle.network_model.specs.Play.{with_vid_more, declared, linked, named_link, at_bridge, at_link, next_count, accepted_once, next_state, played_all}
 use Rattle.network_model.specs.SoundLaws.{AreAccepted}
-use Rattle.network_model.specs.DeliveryLaws.{frames_at, pushed_all}
+use Rattle.network_model.specs.DeliveryLaws.{pushed_all}
 use Rattle.network_model.specs.MeetingLaws.{HaveMet, SomeBridgesMeet}
 use Rattle.spb_world.proofs.ListLemmas.{length-push}
 use Rattle.network_model.proofs.SoundConfigured.{with_first_carrier, first_port, first_ports, first_still}

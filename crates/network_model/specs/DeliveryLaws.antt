@@ -4,7 +4,7 @@ use Rattle.link_model.specs.Lane.{Frame, pushed}
 use Rattle.scenario.specs.declared.command.Command.TheVariants as command
 use Rattle.spb_types.specs.declared.link.Dir.{Dir}
 use Rattle.bridge_api.specs.View.{BridgeView}
-use Rattle.bridge_api.specs.Step.{Input, frame, step, sent, left_by}
+use Rattle.bridge_api.specs.Step.{Input, frame, step, sent, left_by, frames_at}
 use Rattle.spb_world.specs.declared.declaration.DeclaredLink.{DeclaredLink}
 use Rattle.spb_world.specs.World.{place_of, names_of}
 use Rattle.network_model.specs.State.{State, links_of, lane_at}
@@ -13,11 +13,6 @@ use Rattle.network_model.specs.Events.{outs_at, delivered}
 use Rattle.network_model.specs.Refusing.{refusal_of}
 use Rattle.network_model.specs.Play.{played}
 use Rattle.network_model.specs.Sound.{IsSoundState}
-
--- those of the frames that are sent at a port, in order
-abbrev pub frames_at : ℕ → List (ℕ × Frame) → List Frame
-frames_at p [] = []
-frames_at p (s ∷ ss) = if s.0 == p then s.1 ∷ frames_at p ss else frames_at p ss
 
 -- a lane into which frames went, one behind the other; each for which there was no room is lost
 abbrev pub pushed_all : List Frame → List Frame → List Frame

@@ -1,0 +1,8 @@
+//! Rounds of a network, one after another: what comes to each bridge in a round, and when the network becomes quiet.
+//!
+//! There is no code here: each law is the contract of a function that does nothing.
+#![tactic(auto)]
+
+pub use laws::rounds_are_heard;
+
+mod laws;
