@@ -4,3 +4,4 @@ pub mod BroughtIds
 pub mod SentAtPorts
 pub mod CalmSeconds
 pub mod LivedLsps
+pub mod DueSummaries
