@@ -4,4 +4,5 @@ pub mod BroughtIds
 pub mod SentAtPorts
 pub mod CalmSeconds
 pub mod LivedLsps
+pub mod SpentNumbers
 pub mod DueSummaries
