@@ -5,3 +5,4 @@ pub mod Lanes
 pub mod Near
 pub mod Chain
 pub mod Along
+pub mod Flagged

@@ -3,3 +3,4 @@ pub mod Premises
 pub mod Settling
 pub mod Near
 pub mod Along
+pub mod Flags

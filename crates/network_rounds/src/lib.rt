@@ -6,3 +6,7 @@
 pub use laws::{bridges_are_near, rounds_are_heard, rounds_keep_networks_sound};
 
 mod laws;
+
+pub use flags::flags_fall;
+
+mod flags;
