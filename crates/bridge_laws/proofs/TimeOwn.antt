@@ -54,7 +54,7 @@ use Rattle.bridge_api.proofs.TimeLsps.{older_lasts, older_ages, up_second, expir
 
 -- ---- what the bridge has to say after a second
 
-second_says : (v : BridgeView) → bodies_of (step second v) ≡ bodies_with v (neighbours_from 1 (step second v).ports)
+pub second_says : (v : BridgeView) → bodies_of (step second v) ≡ bodies_with v (neighbours_from 1 (step second v).ports)
 second_says v = let w : BridgeView = step second v in ap bodies_of (tick_rest v) ∙ bodies_say (with_and_parts w.ports w.database w.spent w.drops v)
 
 expired_says : (v : BridgeView) → bodies_of (expired (counts_lowered v)) ≡ bodies_of (step second v)
@@ -63,10 +63,10 @@ expired_says v =
     ∙ sym (second_says v ∙ ap (bodies_with v) (ap (neighbours_from 1) (tick_ports v) ∙ neighbours_without_csnp_due 1 (map later v.ports)))
 
 -- the bridge when the lifetimes fell
-abbrev fallen : BridgeView → BridgeView
+abbrev pub fallen : BridgeView → BridgeView
 fallen v = expired (counts_lowered v)
 
-says_at : (v : BridgeView) (number : ℕ) → body_at (fallen v) number ≡ body_at (step second v) number
+pub says_at : (v : BridgeView) (number : ℕ) → body_at (fallen v) number ≡ body_at (step second v) number
 says_at v number = same_at number (bodies_of (fallen v)) (bodies_of (step second v)) (expired_says v)
 
 -- ---- own LSPs when the lifetimes fell
@@ -213,11 +213,11 @@ refreshed_holds : (w : BridgeView) → refreshed w ≡ settling is_new w
 unfolding refreshed
 refreshed_holds w = refl
 
-readied_own : (v : BridgeView) (id : LspId) → get (readied v).database id ≡ get (settling is_new (fallen v)).database id
+pub readied_own : (v : BridgeView) (id : LspId) → get (readied v).database id ≡ get (settling is_new (fallen v)).database id
 readied_own v id = ap (λ (u : BridgeView). get u.database id) (refreshed_holds (fallen v))
 
 -- what was sent leaves own LSPs and whether the numbers are spent
-second_spent : (v : BridgeView) → (step second v).spent ≡ (settling is_new (fallen v)).spent
+pub second_spent : (v : BridgeView) → (step second v).spent ≡ (settling is_new (fallen v)).spent
 second_spent v = ap (λ (w : BridgeView). w.spent) (tick_is v) ∙ ap (λ (u : BridgeView). u.spent) (refreshed_holds (fallen v))
 
 second_own : (v : BridgeView) (number : ℕ) → own_entry (step second v) number ≡ get (step second v).database (own_number v.id.system number)

@@ -1,0 +1,2 @@
+pub mod SecondsSent
+pub mod FramesHeard

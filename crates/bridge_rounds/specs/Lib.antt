@@ -1,1 +1,3 @@
 pub mod Inbox
+pub mod Seconds
+pub mod Hearing

@@ -3,3 +3,13 @@
 //!
 //! There is no code here: each law is the contract of a function that does nothing. The laws of settling stand on them.
 #![tactic(auto)]
+
+pub use hearing::{
+    control_is_silent, frames_are_silent, frames_keep_living, rounds_hold_ids, spent_stays,
+};
+pub use seconds::{
+    seconds_are_calm, seconds_carry_none, seconds_lower, seconds_send_at_port, summaries_are_due,
+};
+
+mod hearing;
+mod seconds;
