@@ -1,2 +1,4 @@
 pub mod SecondsSent
 pub mod FramesHeard
+pub mod Folds
+mod MailSound

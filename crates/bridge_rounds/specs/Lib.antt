@@ -1,3 +1,6 @@
 pub mod Inbox
 pub mod Seconds
 pub mod Hearing
+pub mod Mail
+pub mod Hellos
+pub mod Versions

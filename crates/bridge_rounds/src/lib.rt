@@ -13,3 +13,9 @@ pub use seconds::{
 
 mod hearing;
 mod seconds;
+pub use inbox::{
+    bridges_last_through_rounds, hellos_move_adjacencies, neighbours_keep_up,
+    versions_come_by_claims,
+};
+
+mod inbox;

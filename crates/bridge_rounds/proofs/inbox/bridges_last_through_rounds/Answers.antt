@@ -1,0 +1,8 @@
+use Rattle.bridge_rounds.proofs.MailSound.{mail_is_sound, mail_keeps_bridge}
+use Rattle.bridge_rounds.proofs.inbox.bridges_last_through_rounds.Goals as goal
+
+pub returns-clause-sound : goal.returns-clause-sound
+returns-clause-sound c = mail_is_sound
+
+pub returns-clause-bridge : goal.returns-clause-bridge
+returns-clause-bridge c = mail_keeps_bridge
