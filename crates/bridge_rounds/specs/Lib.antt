@@ -4,3 +4,4 @@ pub mod Hearing
 pub mod Mail
 pub mod Hellos
 pub mod Versions
+pub mod FlagLaws

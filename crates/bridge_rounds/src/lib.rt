@@ -19,3 +19,6 @@ pub use inbox::{
 };
 
 mod inbox;
+pub use flags::{equal_claims_settle_flags, lsps_are_acknowledged};
+
+mod flags;
