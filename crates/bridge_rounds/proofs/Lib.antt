@@ -3,3 +3,6 @@ pub mod FramesHeard
 pub mod Folds
 mod MailSound
 pub mod FlagClaims
+mod KeptPorts
+mod HelloMoves
+mod Towards
