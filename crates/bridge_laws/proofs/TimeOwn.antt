@@ -108,7 +108,7 @@ version_by : (v : BridgeView) (number : ℕ) (o : Option Entry) → is_live (ver
 version_by v number o dead (stays version body most least) = version
 version_by v number o dead (died live last version body) = absurd (true≢false (sym live ∙ dead))
 
-not_live : (v : BridgeView) (number : ℕ) → is_live (version_in (own_entry v number)) ≡ false → version_in (own_entry (fallen v) number) ≡ version_in (own_entry v number)
+pub not_live : (v : BridgeView) (number : ℕ) → is_live (version_in (own_entry v number)) ≡ false → version_in (own_entry (fallen v) number) ≡ version_in (own_entry v number)
 not_live v number dead =
     version_by v number (own_entry (fallen v) number) dead
     (subst (AgedFrom (own_entry v number)) (sym (expired_holds v (own_number v.id.system number))) (older_ages (up_ports (counts_lowered v)) (leaving_from 1 v.ports) (own_entry v number)))
@@ -157,7 +157,7 @@ stale_why v number body (Some old) current (inr other) =
     let f = fell_saying v number old current in inr (not_said body (own_entry (fallen v) number) old (f.lasts.body ∙ current.0) other)
 
 -- and why it isn't
-fresh_why : (v : BridgeView) (number : ℕ) (body : List ℕ) → is_live (version_in (own_entry v number)) ≡ true → 302 ≤ lifetime_in (own_entry v number) → body_in (own_entry v number) ≡ body
+pub fresh_why : (v : BridgeView) (number : ℕ) (body : List ℕ) → is_live (version_in (own_entry v number)) ≡ true → 302 ≤ lifetime_in (own_entry v number) → body_in (own_entry v number) ≡ body
     → is_new (Some body) (own_entry (fallen v) number) ≡ true
 fresh_why v number body live many is =
     let left : ℕ = lifetime_in (own_entry v number) - 1 in

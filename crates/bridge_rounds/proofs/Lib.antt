@@ -6,3 +6,4 @@ pub mod FlagClaims
 mod KeptPorts
 mod HelloMoves
 mod Towards
+pub mod BroughtIds
