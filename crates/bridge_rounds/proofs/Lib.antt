@@ -7,3 +7,7 @@ mod KeptPorts
 mod HelloMoves
 mod Towards
 pub mod BroughtIds
+pub mod FlagFrames
+pub mod FlagHellos
+pub mod FlagSteps
+pub mod FlagFolds
