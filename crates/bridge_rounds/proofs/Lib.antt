@@ -1,11 +1,11 @@
 pub mod SecondsSent
 pub mod FramesHeard
 pub mod Folds
-mod MailSound
+pub mod MailSound
 pub mod FlagClaims
-mod KeptPorts
-mod HelloMoves
-mod Towards
+pub mod KeptPorts
+pub mod HelloMoves
+pub mod Towards
 pub mod BroughtIds
 pub mod FlagFrames
 pub mod FlagHellos
