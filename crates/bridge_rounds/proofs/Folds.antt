@@ -34,6 +34,15 @@ pub held_last : (P : BridgeView → Type 0) (fs : Inbox) (v : BridgeView) → Ho
 held_last P [] v holds = holds
 held_last P (f ∷ fs) v holds = held_last P fs (step (frame f.0 f.1) v) holds.1
 
+-- what follows from what holds at each moment, and two things that hold at each
+pub holds_so : (P Q : BridgeView → Type 0) (fs : Inbox) (v : BridgeView) → ((u : BridgeView) → P u → Q u) → HoldsOn P fs v → HoldsOn Q fs v
+holds_so P Q [] v so holds = so v holds
+holds_so P Q (f ∷ fs) v so holds = (so v holds.0, holds_so P Q fs (step (frame f.0 f.1) v) so holds.1)
+
+pub both_hold : (P Q : BridgeView → Type 0) (fs : Inbox) (v : BridgeView) → HoldsOn P fs v → HoldsOn Q fs v → HoldsOn (λ u. P u × Q u) fs v
+both_hold P Q [] v first second = (first, second)
+both_hold P Q (f ∷ fs) v first second = ((first.0, second.0), both_hold P Q fs (step (frame f.0 f.1) v) first.1 second.1)
+
 -- what one of the frames brings, where something else holds throughout, and what each frame keeps then, holds after all
 pub mail_brings : (Q P : BridgeView → Type 0) (fs : Inbox) (v : BridgeView) (p : ℕ) (bytes : List ℕ) → IsSent fs p bytes → HoldsOn Q fs v
     → ((u : BridgeView) → Q u → P (step (frame p bytes) u))

@@ -5,3 +5,8 @@ pub mod Mail
 pub mod Hellos
 pub mod Versions
 pub mod FlagLaws
+pub mod Mail
+pub mod Hellos
+pub mod Versions
+pub mod Seconds
+pub mod Hearing

@@ -1,5 +1,5 @@
 -- What one second of a bridge does: to its adjacencies, to what it holds, and how much and what it sends.
-use Rattle.std.specs.Prelude.{◌≡◌, ℕ, ◌+◌, ◌/◌, ◌≤◌, ◌<◌, List, length, true, false, Option, Some}
+use Rattle.std.specs.Prelude.{◌≡◌, ℕ, ◌+◌, ◌/◌, ◌≤◌, ◌<◌, List, length, true, false, Some}
 use Rattle.std.specs.Option.{option_map}
 use Rattle.std.specs.FinMap.{get, len}
 use Rattle.spb_types.specs.declared.address.LspId.{LspId}

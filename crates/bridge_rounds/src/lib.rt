@@ -7,11 +7,16 @@
 pub use hearing::{
     control_is_silent, frames_are_silent, frames_keep_living, rounds_hold_ids, spent_stays,
 };
+pub use inbox::{
+    bridges_last_through_rounds, hellos_move_adjacencies, neighbours_keep_up,
+    versions_come_by_claims,
+};
 pub use seconds::{
     seconds_are_calm, seconds_carry_none, seconds_lower, seconds_send_at_port, summaries_are_due,
 };
 
 mod hearing;
+mod inbox;
 mod seconds;
 pub use inbox::{
     bridges_last_through_rounds, hellos_move_adjacencies, neighbours_keep_up,
