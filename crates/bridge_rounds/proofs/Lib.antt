@@ -16,3 +16,5 @@ pub mod FlagFolds
 pub mod SentAtPorts
 pub mod MailFits
 pub mod LspHeld
+pub mod CalmSeconds
+pub mod LivedLsps
