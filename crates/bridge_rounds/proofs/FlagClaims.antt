@@ -90,7 +90,7 @@ and_no true b none = none
 and_no false b none = refl
 
 -- and so isn't answered
-unanswered : (own : Own) (id : LspId) (r : Relation) → is_beyond r ≡ false → is_answered own id r ≡ false
+pub unanswered : (own : Own) (id : LspId) (r : Relation) → is_beyond r ≡ false → is_answered own id r ≡ false
 unanswered own id r within = and_no (same_system id.system own.system) (is_beyond r) within
 
 -- what is answered is at most the answer
@@ -183,7 +183,7 @@ module _ (p : ℕ) (low : 1 ≤ p) (high : p ≤ 32) where
   acked_unless e (Live n s) is = record { srm_stays = λ off. has-without_same e.srm p low high; ssn_stays = λ on. has-with_same e.ssn p low high; srm = λ some. has-without_same e.srm p low high; ssn = λ some. has-with_same e.ssn p low high }
   acked_unless e (Dead n) is = record { srm_stays = λ off. has-without_same e.srm p low high; ssn_stays = λ on. has-with_same e.ssn p low high; srm = λ some. has-without_same e.srm p low high; ssn = λ some. has-with_same e.ssn p low high }
 
-  acked_in : (o : Option Entry) → IsAckedAt p o (option_map (unless_absent (acked p)) o)
+  pub acked_in : (o : Option Entry) → IsAckedAt p o (option_map (unless_absent (acked p)) o)
   acked_in None = record { srm_stays = λ off. off; ssn_stays = λ on. on; srm = λ some. absurd (some refl); ssn = λ some. absurd (some refl) }
   acked_in (Some e) = acked_unless e e.version refl
 

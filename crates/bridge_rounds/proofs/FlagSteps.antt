@@ -59,7 +59,7 @@ unfolding is_up_at
 up_there v q port there up = ap is_up_in there ∙ up
 
 -- the database after what was heard
-after_lsp : (v w : BridgeView) (q : ℕ) (l : LspValue) → IsSoundView v → w ≡ originated_if_changed (heard_lsp l q v) → w.database ≡ (heard_lsp l q v).database
+pub after_lsp : (v w : BridgeView) (q : ℕ) (l : LspValue) → IsSoundView v → w ≡ originated_if_changed (heard_lsp l q v) → w.database ≡ (heard_lsp l q v).database
 after_lsp v w q l sound is = ap (λ (u : BridgeView). u.database) (is ∙ lsp_settles_nothing v l q sound)
 
 after_csnp : (v w : BridgeView) (q : ℕ) (c : CsnpValue) (entries : List SnpEntry) → IsSoundView v → w ≡ originated_if_changed (heard_csnp c entries q v) → w.database ≡ (heard_csnp c entries q v).database
@@ -123,7 +123,7 @@ heard_there v p bytes sound at =
     ∙ ap (λ (b : Bool). if b then heard_as (parsed bytes) p at.port v else after_drop drop.NotAdjacent v)
     (up_carrier at.port.adjacency.state at.port.adjacency (sound_at v p at.port sound.ports at.there).adjacency at.up)
 
-when : (b : Bool) (u w : BridgeView) → b ≡ true → (if b then u else w) ≡ u
+pub when : (b : Bool) (u w : BridgeView) → b ≡ true → (if b then u else w) ≡ u
 when true u w is = refl
 when false u w is = absurd cc
 

@@ -18,3 +18,7 @@ pub mod MailFits
 pub mod LspHeld
 pub mod CalmSeconds
 pub mod LivedLsps
+pub mod FlagAcked
+pub mod LinkFlags
+pub mod FlaggedLsps
+pub mod LinkFrames

@@ -10,3 +10,5 @@ pub mod Hellos
 pub mod Versions
 pub mod Seconds
 pub mod Hearing
+pub mod LinkFlags
+pub mod LinkFrames
