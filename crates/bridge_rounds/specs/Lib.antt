@@ -1,9 +1,4 @@
 pub mod Inbox
-pub mod Seconds
-pub mod Hearing
-pub mod Mail
-pub mod Hellos
-pub mod Versions
 pub mod FlagLaws
 pub mod Mail
 pub mod Hellos
