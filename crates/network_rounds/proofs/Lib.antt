@@ -6,3 +6,7 @@ pub mod Near
 pub mod Chain
 pub mod Along
 pub mod Flagged
+pub mod BridgeLaws
+pub mod Start
+pub mod Coming
+pub mod Passing

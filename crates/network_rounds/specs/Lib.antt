@@ -4,3 +4,4 @@ pub mod Settling
 pub mod Near
 pub mod Along
 pub mod Flags
+pub mod Steady

@@ -4,9 +4,9 @@
 #![tactic(auto)]
 
 pub use laws::{bridges_are_near, rounds_are_heard, rounds_keep_networks_sound};
-
-mod laws;
-
+pub use steady::nothing_is_lost;
 pub use flags::flags_fall;
 
 mod flags;
+mod laws;
+mod steady;
