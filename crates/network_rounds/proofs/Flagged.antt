@@ -44,14 +44,16 @@ use Rattle.network_model.specs.Quiet.{HaveNoFlags}
 use Rattle.network_model.proofs.Linked.{far_view}
 use Rattle.network_model.proofs.QuietLaws.{port_of}
 use Rattle.network_rounds.specs.Rounds.{IsHeardRound}
-use Rattle.network_rounds.specs.Flags.{coming_next, NeighboursAreBehind, IsWholeRound, HearsOfFew, FallSilent, FlagsFall}
+use Rattle.network_rounds.specs.Steady.{inbox_of}
+use Rattle.network_rounds.proofs.Passing.{heard_view}
+use Rattle.network_rounds.specs.Flags.{NeighboursAreBehind, IsWholeRound, HearsOfFew, FallSilent, FlagsFall}
 
 -- ---- a link in a round
 
 -- what its two ends are to each other, the first one with port q, and the other one with port p
 record IsRoundBetween (id : LspId) (s : State) (i q j p : ℕ) (u v : BridgeView) : Type 0 where
-  there : ComesOver u q v p (coming_next s j)
-  back : ComesOver v p u q (coming_next s i)
+  there : ComesOver u q v p (inbox_of s j)
+  back : ComesOver v p u q (inbox_of s i)
   ready_there : IsReadyFor id u q v
   ready_back : IsReadyFor id v p u
 
@@ -69,10 +71,10 @@ round_over id s r k Ba l u v round at live near far =
     let back = round.comes k Ab l v u at live far near in
     record { there = there; back = back; ready_there = (round.sound.agree k Ba l u v at near far).ready id there.up; ready_back = (round.sound.agree k Ab l v u at far near).ready id back.up }
 
-agreeing : ControlAgain → (id : LspId) (s : State) (i q j p : ℕ) (u v : BridgeView) (a : Version) → IsRoundBetween id s i q j p u v → version_at (after_round (coming_next s i) u).database id ≡ a → version_at (after_round (coming_next s j) v).database id ≡ a
-    → ComesToAgree id u q (coming_next s i) v p (coming_next s j) a
+agreeing : ControlAgain → (id : LspId) (s : State) (i q j p : ℕ) (u v : BridgeView) (a : Version) → IsRoundBetween id s i q j p u v → version_at (after_round (inbox_of s i) u).database id ≡ a → version_at (after_round (inbox_of s j) v).database id ≡ a
+    → ComesToAgree id u q (inbox_of s i) v p (inbox_of s j) a
 agreeing again id s i q j p u v a round held_there held_back = record {
-  round = record { there = frames_tell again u v q p (coming_next s j) id round.there; back = frames_tell again v u p q (coming_next s i) id round.back };
+  round = record { there = frames_tell again u v q p (inbox_of s j) id round.there; back = frames_tell again v u p q (inbox_of s i) id round.back };
   ready_there = round.ready_there;
   ready_back = round.ready_back;
   held_there = held_there;
@@ -94,21 +96,9 @@ ahead_over id s k Ba l u v behind at live near far = record { there = behind k B
 
 -- ---- views and links from round to round
 
--- the view at a place was made of the one before
-record IsMadeOf (s t : State) (i : ℕ) (w : BridgeView) : Type 0 where
-  view : BridgeView
-  there : slice_get s.views i ≡ Some view
-  made : after_round (coming_next s i) view ≡ w
-
-made_of : (s t : State) (i : ℕ) (w : BridgeView) (o : Option BridgeView) → slice_get s.views i ≡ o → option_map (after_round (coming_next s i)) o ≡ Some w → IsMadeOf s t i w
-made_of s t i w None there is = absurd cc
-made_of s t i w (Some v) there is = record { view = v; there = there; made = cc }
-
-before : (s t : State) (i : ℕ) (w : BridgeView) → IsHeardRound s t → slice_get t.views i ≡ Some w → IsMadeOf s t i w
-before s t i w heard at = made_of s t i w (slice_get s.views i) refl (sym (heard.views i) ∙ at)
-
-after : (s t : State) (i : ℕ) (v : BridgeView) → IsHeardRound s t → slice_get s.views i ≡ Some v → slice_get t.views i ≡ Some (after_round (coming_next s i) v)
-after s t i v heard at = heard.views i ∙ ap (option_map (after_round (coming_next s i))) at
+-- the view at a place after a round
+pub after : (s t : State) (i : ℕ) (v : BridgeView) → IsHeardRound s t → slice_get s.views i ≡ Some v → slice_get t.views i ≡ Some (after_round (inbox_of s i) v)
+after s t i v heard at = heard.views i ∙ ap (option_map (after_round (inbox_of s i))) at
 
 same_links : (s t : State) (k : ℕ) (l : DeclaredLink) → IsHeardRound s t → slice_get (links_of s) k ≡ Some l → slice_get (links_of t) k ≡ Some l
 same_links s t k l heard at = ap (λ (w : World). slice_get (things_of w.links) k) heard.world ∙ at
@@ -144,18 +134,18 @@ where_not false is off = is
 module _ (again : ControlAgain) (s r t u : State) (fall : FallSilent s r t u) where
   -- at the near end of a link, from the views at its ends before the first round on
   three : (k : ℕ) (dir : Dir) (l : DeclaredLink) (v w : BridgeView) (id : LspId) → slice_get (links_of s) k ≡ Some l → l.live ≡ true → slice_get s.views (near_end dir l).bridge ≡ Some v → slice_get s.views (far_end dir l).bridge ≡ Some w
-      → let i = (near_end dir l).bridge in let x : BridgeView = after_round (coming_next t i) (after_round (coming_next r i) (after_round (coming_next s i) v)) in HasNoSrm x id (near_end dir l).port × HasNoSsn x id (near_end dir l).port
+      → let i = (near_end dir l).bridge in let x : BridgeView = after_round (inbox_of t i) (after_round (inbox_of r i) (after_round (inbox_of s i) v)) in HasNoSrm x id (near_end dir l).port × HasNoSsn x id (near_end dir l).port
   three k dir l v w id at live near far =
       let i = (near_end dir l).bridge in
       let j = (far_end dir l).bridge in
       let q = (near_end dir l).port in
       let p = (far_end dir l).port in
-      let v1 : BridgeView = after_round (coming_next s i) v in
-      let w1 : BridgeView = after_round (coming_next s j) w in
-      let v2 : BridgeView = after_round (coming_next r i) v1 in
-      let w2 : BridgeView = after_round (coming_next r j) w1 in
-      let v3 : BridgeView = after_round (coming_next t i) v2 in
-      let w3 : BridgeView = after_round (coming_next t j) w2 in
+      let v1 : BridgeView = after_round (inbox_of s i) v in
+      let w1 : BridgeView = after_round (inbox_of s j) w in
+      let v2 : BridgeView = after_round (inbox_of r i) v1 in
+      let w2 : BridgeView = after_round (inbox_of r j) w1 in
+      let v3 : BridgeView = after_round (inbox_of t i) v2 in
+      let w3 : BridgeView = after_round (inbox_of t j) w2 in
       let near1 = after s r i v fall.first.heard near in
       let far1 = after s r j w fall.first.heard far in
       let near2 = after r t i v1 fall.next.heard near1 in
@@ -171,10 +161,10 @@ module _ (again : ControlAgain) (s r t u : State) (fall : FallSilent s r t u) wh
       let last : version_at v3.database id ≡ a = fall.stand_still i v2 v3 id near2 near3 ∙ stays in
       let last_there : version_at w3.database id ≡ a = fall.stand_still j w2 w3 id far2 far3 ∙ stays_there in
       let ahead = ahead_over id s k dir l v w fall.behind at live near far in
-      links_fall_silent id v w q p (coming_next s i) (coming_next s j) (coming_next r i) (coming_next r j) (coming_next t i) (coming_next t j) a
+      links_fall_silent id v w q p (inbox_of s i) (inbox_of s j) (inbox_of r i) (inbox_of r j) (inbox_of t i) (inbox_of t j) a
       (agreeing again id s i q j p v w a (round_over id s r k dir l v w fall.first at live near far) refl same)
-      (answering id v w (coming_next s j) (fall.few j w far) ahead.there)
-      (answering id w v (coming_next s i) (fall.few i v near) ahead.back)
+      (answering id v w (inbox_of s j) (fall.few j w far) ahead.there)
+      (answering id w v (inbox_of s i) (fall.few i v near) ahead.back)
       (agreeing again id r i q j p v1 w1 a (round_over id r t k dir l v1 w1 fall.next at1 live near1 far1) stays stays_there)
       (agreeing again id t i q j p v2 w2 a (round_over id t u k dir l v2 w2 fall.last at2 live near2 far2) last last_there)
 
@@ -184,13 +174,13 @@ module _ (again : ControlAgain) (s r t u : State) (fall : FallSilent s r t u) wh
   silent_over k dir l x id at live there =
       let i = (near_end dir l).bridge in
       let p = (near_end dir l).port in
-      let second = before t u i x fall.last.heard there in
-      let first = before r t i second.view fall.next.heard second.there in
-      let start = before s r i first.view fall.first.heard first.there in
+      let second = heard_view t u i x fall.last.heard there in
+      let first = heard_view r t i second.0 fall.next.heard second.1 in
+      let start = heard_view s r i first.0 fall.first.heard first.1 in
       let far = far_view s k dir l fall.first.sound at in
-      let made : after_round (coming_next t i) (after_round (coming_next r i) (after_round (coming_next s i) start.view)) ≡ x =
-      ap (λ (y : BridgeView). after_round (coming_next t i) (after_round (coming_next r i) y)) start.made ∙ (ap (after_round (coming_next t i)) first.made ∙ second.made) in
-      subst (λ (y : BridgeView). HasNoSrm y id p × HasNoSsn y id p) made (three k dir l start.view far.0 id at live start.there far.1)
+      let made : x ≡ after_round (inbox_of t i) (after_round (inbox_of r i) (after_round (inbox_of s i) start.0)) =
+      second.2 ∙ ap (after_round (inbox_of t i)) (first.2 ∙ ap (after_round (inbox_of r i)) start.2) in
+      subst (λ (y : BridgeView). HasNoSrm y id p × HasNoSsn y id p) (sym made) (three k dir l start.0 far.0 id at live start.1 far.1)
 
   -- ---- at a port that is Up
 

@@ -10,3 +10,4 @@ pub mod BridgeLaws
 pub mod Start
 pub mod Coming
 pub mod Passing
+pub mod Pushing

@@ -5,21 +5,17 @@ use Rattle.spb_types.specs.declared.address.LspId.{LspId}
 use Rattle.spb_types.specs.declared.link.Dir.{Dir}
 use Rattle.lsdb.specs.Version.{IsAtMost}
 use Rattle.lsdb.specs.Database.{version_at}
-use Rattle.bridge_api.specs.View.{BridgeView, is_csnp_due_at}
+use Rattle.bridge_api.specs.View.{BridgeView}
 use Rattle.bridge_api.specs.Step.{second, step}
 use Rattle.bridge_rounds.specs.Inbox.{Inbox, IsMail, HoldsWithin}
 use Rattle.bridge_rounds.specs.LinkFrames.{ComesOver}
 use Rattle.spb_world.specs.declared.declaration.DeclaredLink.{DeclaredLink}
 use Rattle.spb_world.specs.Links.{near_end, far_end}
 use Rattle.network_model.specs.State.{State, links_of}
-use Rattle.network_model.specs.Events.{all_ticked}
 use Rattle.network_model.specs.Sound.{IsSoundState}
 use Rattle.network_model.specs.Quiet.{HaveNoFlags}
-use Rattle.network_rounds.specs.Rounds.{inbox, IsHeardRound}
-
--- what comes to the bridge at place i in the next round
-abbrev pub coming_next : State → ℕ → Inbox
-coming_next s i = inbox (links_of s) (all_ticked s).lanes i
+use Rattle.network_rounds.specs.Rounds.{IsHeardRound, IsRoundOf}
+use Rattle.network_rounds.specs.Steady.{inbox_of, HaveNoneDue, IsSteadyState, IsSteadyRound}
 
 -- something holds of the bridges at the two ends of each direction of each link that is up
 abbrev pub OverLinks : (DeclaredLink → Dir → BridgeView → BridgeView → Type 0) → State → Type 0
@@ -30,7 +26,7 @@ OverLinks P s = (k : ℕ) (dir : Dir) (l : DeclaredLink) (v w : BridgeView) → 
 -- in the next round all comes over each link that is sent there, and seconds change lifetimes alone
 abbrev pub AllComesOver : State → Type 0
 AllComesOver s = OverLinks (λ l dir v w. ComesOver v (near_end dir l).port w (far_end dir l).port
-    (coming_next s (far_end dir l).bridge)) s
+    (inbox_of s (far_end dir l).bridge)) s
 
 -- both ends of each link hold the same, and of its own system no bridge holds an older LSP than its neighbours
 abbrev pub NeighboursAgree : State → Type 0
@@ -48,7 +44,7 @@ pub record HearsOfFew (v : BridgeView) (fs : Inbox) : Type 0 where
   pub mail : IsMail ids (step second v) fs
 
 abbrev pub AllHearOfFew : State → Type 0
-AllHearOfFew s = (i : ℕ) (v : BridgeView) → slice_get s.views i ≡ Some v → HearsOfFew v (coming_next s i)
+AllHearOfFew s = (i : ℕ) (v : BridgeView) → slice_get s.views i ≡ Some v → HearsOfFew v (inbox_of s i)
 
 -- no bridge holds another version than before
 abbrev pub VersionsStand : State → State → Type 0
@@ -72,8 +68,27 @@ pub record FallSilent (s r t u : State) : Type 0 where
   pub agree : NeighboursAgree r
   pub stand : VersionsStand r t
   pub stand_still : VersionsStand t u
-  pub undue : (i : ℕ) (v : BridgeView) (p : ℕ) → slice_get u.views i ≡ Some v → is_csnp_due_at v p ≡ false
+  pub undue : HaveNoneDue u
 
 -- then no bridge has a flag
 abbrev pub FlagsFall : Type 0
 FlagsFall = (s r t u : State) → FallSilent s r t u → HaveNoFlags u
+
+-- a steady round is such a one, if CSNPs are due nowhere before it
+abbrev pub SteadyRoundsAreWhole : Type 0
+SteadyRoundsAreWhole = (ids : List LspId) (m : ℕ) (s t : State) → IsSteadyState ids m s → IsRoundOf s t
+    → IsSteadyRound ids s t → HaveNoneDue s → IsWholeRound s t × AllHearOfFew s
+
+-- in such a round no version falls, and each neighbour comes to hold at least what a bridge held
+abbrev pub VersionsRise : State → State → Type 0
+VersionsRise s t = (i : ℕ) (v w : BridgeView) (id : LspId) → slice_get s.views i ≡ Some v
+    → slice_get t.views i ≡ Some w → IsAtMost (version_at v.database id) (version_at w.database id)
+
+abbrev pub VersionsAreHeard : State → State → Type 0
+VersionsAreHeard s t = (k : ℕ) (dir : Dir) (l : DeclaredLink) (v w : BridgeView) (id : LspId)
+    → slice_get (links_of s) k ≡ Some l → l.live ≡ true → slice_get s.views (near_end dir l).bridge ≡ Some v
+    → slice_get t.views (far_end dir l).bridge ≡ Some w
+    → IsAtMost (version_at v.database id) (version_at w.database id)
+
+abbrev pub WholeRoundsPush : Type 0
+WholeRoundsPush = (s t : State) → IsWholeRound s t → AllHearOfFew s → VersionsRise s t × VersionsAreHeard s t
