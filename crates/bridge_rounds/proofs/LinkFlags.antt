@@ -41,7 +41,7 @@ up_last p n [] v stays = stays.0
 up_last p n (f ∷ fs) v stays = up_last p n fs (step (frame f.0 f.1) v) stays.2
 
 -- a version that is not lower after the round than it was
-pub risen : (id : LspId) (u : BridgeView) (q : ℕ) (v : BridgeView) (p : ℕ) (fs : Inbox) → IsSentOver id u q v p fs → IsAtMost (version_at v.database id) (version_at (after_round fs v).database id)
+risen : (id : LspId) (u : BridgeView) (q : ℕ) (v : BridgeView) (p : ℕ) (fs : Inbox) → IsSentOver id u q v p fs → IsAtMost (version_at v.database id) (version_at (after_round fs v).database id)
 risen id u q v p fs over = subst (λ (a : Version). IsAtMost a (version_at (after_round fs v).database id)) over.still.version (mail_rises (step second v) fs id over.hears.sound)
 
 -- where the version of the other end is the own one before and after, nothing else is claimed

@@ -1,15 +1,14 @@
 -- Where neighbours come to hold the same, three rounds leave no flag.
-use Rattle.std.proofs.Common.{◌≡◌, ◌≢◌, ◌⊎◌, inl, inr, ◌≤◌, ◌-◌, ℕ, zero, suc, Bool, true, false, List, [], ◌∷◌, length, refl, sym, ap, ◌∙◌, subst, Option, Some, None, arith}
-use Rattle.std.specs.Prelude.{◌||◌, nat_le, slice_get, if◌then◌else◌}
+use Rattle.std.proofs.Common.{◌≡◌, ◌-◌, ℕ, zero, suc, Bool, true, false, List, [], ◌∷◌, refl, sym, ap, ◌∙◌, subst, Option, Some, None, arith}
+use Rattle.std.specs.Prelude.{◌||◌, slice_get}
 use Rattle.std.specs.Option.{option_map, option_map_or}
-use Rattle.std.specs.List.{AllByRecursion, list_any}
+use Rattle.std.specs.List.{list_any}
 use Rattle.std.specs.FinMap.{get}
 use Rattle.std.proofs.lemmas.Bool.{true≢false}
 use Rattle.std.proofs.lemmas.Option.{slice_get_within}
 use Rattle.spb_types.specs.declared.address.LspId.{LspId}
 use Rattle.spb_types.specs.declared.link.Dir.{Dir}
 use Rattle.spb_types.specs.declared.link.Dir.TheVariants.{Ab, Ba}
-use Rattle.spb_types.specs.declared.ports.PortSet.{PortSet}
 use Rattle.spb_types.specs.Ports.{has}
 use Rattle.spb_types.proofs.PortLemmas.{has-no_ports}
 use Rattle.itag_frames.specs.Classify.{ControlAgain}
@@ -19,9 +18,8 @@ use Rattle.lsdb.specs.Version.{IsAtMost}
 use Rattle.lsdb.specs.Entry.{Entry}
 use Rattle.lsdb.specs.Database.{srm_in, ssn_in, version_at}
 use Rattle.lsdb.proofs.Flags.{without_due}
-use Rattle.adjacency.specs.Adjacency.{is_up}
 use Rattle.bridge_api.specs.declared.port.BridgePort.{BridgePort}
-use Rattle.bridge_api.specs.View.{BridgeView, IsPort, port_at, is_port_up, is_up_in, is_up_at, has_carrier_in, has_carrier_at, is_csnp_due_in, is_csnp_due_at, up_ports, has_flags}
+use Rattle.bridge_api.specs.View.{BridgeView, IsPort, port_at, is_up_at, has_carrier_in, has_carrier_at, is_csnp_due_in, is_csnp_due_at, has_flags}
 use Rattle.bridge_api.specs.Laws.{IsSoundView}
 use Rattle.bridge_api.proofs.Changes.{found}
 use Rattle.bridge_api.proofs.SoundPorts.{sound_at}
@@ -39,7 +37,6 @@ use Rattle.spb_world.specs.Links.{is_live, near_end, far_end, lane_out}
 use Rattle.spb_world.proofs.BoxLemmas.{All-get}
 use Rattle.spb_world.proofs.SoundLaneIds.{LeadsFrom, lane_leads}
 use Rattle.network_model.specs.State.{State, links_of}
-use Rattle.network_model.specs.Sound.{IsSoundState, ends_live_link}
 use Rattle.network_model.specs.Quiet.{HaveNoFlags}
 use Rattle.network_model.proofs.Linked.{far_view}
 use Rattle.network_model.proofs.QuietLaws.{port_of}
@@ -97,7 +94,7 @@ ahead_over id s k Ba l u v behind at live near far = record { there = behind k B
 -- ---- views and links from round to round
 
 -- the view at a place after a round
-pub after : (s t : State) (i : ℕ) (v : BridgeView) → IsHeardRound s t → slice_get s.views i ≡ Some v → slice_get t.views i ≡ Some (after_round (inbox_of s i) v)
+after : (s t : State) (i : ℕ) (v : BridgeView) → IsHeardRound s t → slice_get s.views i ≡ Some v → slice_get t.views i ≡ Some (after_round (inbox_of s i) v)
 after s t i v heard at = heard.views i ∙ ap (option_map (after_round (inbox_of s i))) at
 
 same_links : (s t : State) (k : ℕ) (l : DeclaredLink) → IsHeardRound s t → slice_get (links_of s) k ≡ Some l → slice_get (links_of t) k ≡ Some l

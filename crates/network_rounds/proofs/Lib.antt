@@ -10,4 +10,3 @@ pub mod BridgeLaws
 pub mod Start
 pub mod Coming
 pub mod Passing
-pub mod Pushing

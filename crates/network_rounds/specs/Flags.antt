@@ -1,6 +1,6 @@
 -- What three rounds make of the flags of a network whose bridges come to hold the same: nobody has anything to send or
 -- to acknowledge any more.
-use Rattle.std.specs.Prelude.{◌≡◌, ℕ, ◌≤◌, List, length, true, false, Some, slice_get}
+use Rattle.std.specs.Prelude.{◌≡◌, ℕ, ◌≤◌, List, length, true, Some, slice_get}
 use Rattle.spb_types.specs.declared.address.LspId.{LspId}
 use Rattle.spb_types.specs.declared.link.Dir.{Dir}
 use Rattle.lsdb.specs.Version.{IsAtMost}
@@ -14,8 +14,8 @@ use Rattle.spb_world.specs.Links.{near_end, far_end}
 use Rattle.network_model.specs.State.{State, links_of}
 use Rattle.network_model.specs.Sound.{IsSoundState}
 use Rattle.network_model.specs.Quiet.{HaveNoFlags}
-use Rattle.network_rounds.specs.Rounds.{IsHeardRound, IsRoundOf}
-use Rattle.network_rounds.specs.Steady.{inbox_of, HaveNoneDue, IsSteadyState, IsSteadyRound}
+use Rattle.network_rounds.specs.Rounds.{IsHeardRound}
+use Rattle.network_rounds.specs.Steady.{inbox_of, HaveNoneDue}
 
 -- something holds of the bridges at the two ends of each direction of each link that is up
 abbrev pub OverLinks : (DeclaredLink → Dir → BridgeView → BridgeView → Type 0) → State → Type 0
@@ -73,22 +73,3 @@ pub record FallSilent (s r t u : State) : Type 0 where
 -- then no bridge has a flag
 abbrev pub FlagsFall : Type 0
 FlagsFall = (s r t u : State) → FallSilent s r t u → HaveNoFlags u
-
--- a steady round is such a one, if CSNPs are due nowhere before it
-abbrev pub SteadyRoundsAreWhole : Type 0
-SteadyRoundsAreWhole = (ids : List LspId) (m : ℕ) (s t : State) → IsSteadyState ids m s → IsRoundOf s t
-    → IsSteadyRound ids s t → HaveNoneDue s → IsWholeRound s t × AllHearOfFew s
-
--- in such a round no version falls, and each neighbour comes to hold at least what a bridge held
-abbrev pub VersionsRise : State → State → Type 0
-VersionsRise s t = (i : ℕ) (v w : BridgeView) (id : LspId) → slice_get s.views i ≡ Some v
-    → slice_get t.views i ≡ Some w → IsAtMost (version_at v.database id) (version_at w.database id)
-
-abbrev pub VersionsAreHeard : State → State → Type 0
-VersionsAreHeard s t = (k : ℕ) (dir : Dir) (l : DeclaredLink) (v w : BridgeView) (id : LspId)
-    → slice_get (links_of s) k ≡ Some l → l.live ≡ true → slice_get s.views (near_end dir l).bridge ≡ Some v
-    → slice_get t.views (far_end dir l).bridge ≡ Some w
-    → IsAtMost (version_at v.database id) (version_at w.database id)
-
-abbrev pub WholeRoundsPush : Type 0
-WholeRoundsPush = (s t : State) → IsWholeRound s t → AllHearOfFew s → VersionsRise s t × VersionsAreHeard s t
