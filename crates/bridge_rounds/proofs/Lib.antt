@@ -20,5 +20,7 @@ mod ComeFrom
 pub mod SentAtPorts
 pub mod CalmSeconds
 pub mod LivedLsps
+pub mod SpentNumbers
+pub mod DueSummaries
 mod MailFits
 mod LspHeld
