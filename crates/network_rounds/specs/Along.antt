@@ -24,8 +24,8 @@ SingleCommandsAreRounds = (k : ℕ) (s : State) → AreRounds k s (played_all s 
 abbrev pub RoundsStaySound : Type 0
 RoundsStaySound = (k : ℕ) (s t : State) → AreRounds k s t → IsSoundState s → IsSoundState t
 
--- each round raises the sequence numbers by 128 at most, and what is held and on its way of each LSP still stems from the
--- bridge that originates it
+-- each round raises the sequence numbers by 128 at most, and what is held and on its way of each LSP still stems from
+-- the bridge that originates it
 abbrev pub RoundsStayCounted : Type 0
 RoundsStayCounted = (k allowance : ℕ) (s t : State) → AreRounds k s t → IsSoundState s → IsCountedBy allowance s
     → allowance + 128 * k < last_number → IsCountedBy (allowance + 128 * k) t
