@@ -11,3 +11,5 @@ pub mod BroughtIds
 pub mod SentAtPorts
 mod MailFits
 mod LspHeld
+mod StayingUp
+mod SaysSame

@@ -4,3 +4,4 @@ pub mod Hellos
 pub mod Versions
 pub mod Seconds
 pub mod Hearing
+pub mod Staying
