@@ -5,7 +5,7 @@ use adjacency::{AdjState, Adjacency};
 use lsdb::{DbRow, Version};
 use report::{
     adj_text, check_no_text, check_yes_text, db_text, drops_text, error_text, out_text, path_text,
-    proof_text, state_text, tables_text, whatif_text,
+    proof_text, settle_text, state_text, tables_text, whatif_text,
 };
 use spb_types::{
     EntryWord, GroupRow, Mac, Name, NoMemory, PortSet, Seq, TableRow, Tables, UnicastRow, Vid,
@@ -246,6 +246,13 @@ fn a_frame_that_leaves_is_hexadecimal(rt: HostRuntime) {
 fn a_state_names_the_conditions_that_fail(rt: HostRuntime) {
     check(&rt, state_text(rt.alloc(), &[]), "state quiet\n");
     check(&rt, state_text(rt.alloc(), &[1, 3]), "state busy q1 q3\n");
+}
+
+#[test]
+fn settling_ends_in_quiet_or_says_why_not(rt: HostRuntime) {
+    check(&rt, settle_text(rt.alloc(), 5, None), "settle 5 quiet\n");
+    let text = settle_text(rt.alloc(), 56, Some("lifetime"));
+    check(&rt, text, "settle 56 busy lifetime\n");
 }
 
 #[test]

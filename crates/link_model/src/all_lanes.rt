@@ -1,6 +1,6 @@
 //! The lanes of all links in a list, each found by its id.
-ghost use Rattle.std.specs.Prelude.{◌≡◌, ℕ, ◌≤◌, ◌<◌, [], ◌∷◌, ◌++◌, length, None, OnOk, OnErr, slice_get};
-ghost use Rattle.std.specs.Option.{option_map};
+ghost use Rattle.std.specs.Prelude.{◌≡◌, ℕ, ◌*◌, ◌≤◌, ◌<◌, [], ◌∷◌, ◌++◌, length, None, OnOk, OnErr, slice_get};
+ghost use Rattle.std.specs.Option.{option_map, option_copied};
 ghost use Rattle.std.specs.Borrow.{sem};
 ghost use Rattle.spb_types.specs.Places.{changed_at};
 ghost use Rattle.link_model.specs.Lane.{pushed, after_lose, after_double};
@@ -64,6 +64,23 @@ impl AllLanes {
         match self.links.get(id.link) {
             None => 0,
             Some(lanes) => lanes.lane(id.dir).len(),
+        }
+    }
+
+    /// How many lanes there are: two for each link.
+    pub fn lanes(&self) -> usize
+        ensures { result ≡ 2 * length self.now }
+    {
+        2 * self.links.len()
+    }
+
+    /// The frame at a place of a lane, counted from 0 at the front. None exactly where there is none.
+    pub fn frame(&self, id: LaneId, place: usize) -> Option<&[u8]>
+        ensures { option_copied result ≡ slice_get (lane_of self.now id.link id.dir) place }
+    {
+        match self.links.get(id.link) {
+            None => None,
+            Some(lanes) => lanes.lane(id.dir).at(place),
         }
     }
 

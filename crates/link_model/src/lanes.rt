@@ -1,5 +1,6 @@
 //! The lanes of all links, two for each, by the place of the link.
-ghost use Rattle.std.specs.Prelude.{◌≡◌, [], ◌∷◌, ◌++◌, length, is_none, OnOk, OnErr, slice_get};
+ghost use Rattle.std.specs.Prelude.{◌≡◌, ◌*◌, [], ◌∷◌, ◌++◌, length, is_none, OnOk, OnErr, slice_get};
+ghost use Rattle.std.specs.Option.{option_copied};
 ghost use Rattle.std.specs.Borrow.{sem};
 ghost use Rattle.spb_types.specs.Places.{changed_at};
 ghost use Rattle.link_model.specs.Lane.{pushed, after_lose, after_double};
@@ -123,6 +124,20 @@ impl Lanes {
         ensures { result ≡ length (lane_of self.now id.link id.dir) }
     {
         self.all.frames(id)
+    }
+
+    /// How many lanes there are: two for each link.
+    pub fn lanes(&self) -> usize
+        ensures { result ≡ 2 * length self.now }
+    {
+        self.all.lanes()
+    }
+
+    /// The frame at a place of a lane, counted from 0 at the front. None exactly where there is none.
+    pub fn frame(&self, id: LaneId, place: usize) -> Option<&[u8]>
+        ensures { option_copied result ≡ slice_get (lane_of self.now id.link id.dir) place }
+    {
+        self.all.frame(id, place)
     }
 
     /// A frame goes into a lane. It is lost where 1,024 frames stand. After NoMemory nothing changed.

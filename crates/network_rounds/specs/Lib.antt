@@ -1,1 +1,5 @@
 pub mod Rounds
+pub mod Premises
+pub mod Settling
+pub mod Near
+pub mod Along

@@ -20,7 +20,7 @@ use Rattle.report.specs.Tables.{unicast_line, group_line, quiet_words, tables_he
 use Rattle.report.specs.Database.{id_text, version_words, held_line, db_text}
 use Rattle.report.specs.Adjacencies.{due_text, neighbour_words, state_words, adjacency_words, port_line, port_lines, adj_text}
 use Rattle.report.specs.Lines as lines
-use Rattle.report.specs.Laws.{LacksNewline, IsName, HasLines, TablesHaveLines, DatabaseHasLines, AdjacenciesHaveLines, PathIsLine, DropsIsLine, OutIsLine, StateIsLine, ErrorIsLine}
+use Rattle.report.specs.Laws.{LacksNewline, IsName, HasLines, TablesHaveLines, DatabaseHasLines, AdjacenciesHaveLines, PathIsLine, DropsIsLine, OutIsLine, StateIsLine, SettleIsLine, ErrorIsLine}
 use Rattle.report.proofs.Newlines.{newlines-append, append_lacks, spaced_lack, decimal_lacks, hex_lacks, name_lacks, ports_lack}
 
 -- words without LF, one list after another
@@ -180,6 +180,15 @@ state_words_lack (q ∷ qs) = (refl, conditions_lack (q ∷ qs))
 pub state_is_line : StateIsLine
 unfolding lines.state_text
 state_is_line failing = is_line (codes "state") (lines.state_words failing) refl (state_words_lack failing)
+
+settle_words_lack : (why : Option (List ℕ)) → ((word : List ℕ) → why ≡ Some word → LacksNewline word) → AllByRecursion LacksNewline (lines.settle_words why)
+settle_words_lack None h = (refl, tt)
+settle_words_lack (Some why) h = (refl, (h why refl, tt))
+
+pub settle_is_line : SettleIsLine
+unfolding lines.settle_text
+settle_is_line rounds why h =
+    is_line (codes "settle") (decimal rounds ∷ lines.settle_words why) refl (decimal_lacks rounds, settle_words_lack why h)
 
 column_lacks : (column : Option ℕ) → AllByRecursion LacksNewline (lines.column_words column)
 column_lacks None = tt

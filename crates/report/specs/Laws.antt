@@ -1,5 +1,5 @@
 -- What the texts of answers are like.
-use Rattle.std.specs.Prelude.{◌≡◌, ℕ, ◌+◌, List, ◌++◌, length, Bool, ◌==◌, IsTrue, ◌↔◌, Contains, count_by, All, Option, codes, ⊤}
+use Rattle.std.specs.Prelude.{◌≡◌, ℕ, ◌+◌, List, ◌++◌, length, Bool, ◌==◌, IsTrue, ◌↔◌, Contains, count_by, All, Option, Some, codes, ⊤}
 use Rattle.std.specs.List.Sorted.{IsStrictlyIncreasing}
 use Rattle.spb_types.specs.declared.entry_word.EntryWord.{EntryWord}
 use Rattle.spb_types.specs.declared.entry_word.EntryWord.TheVariants.{Start, Before, Unreached}
@@ -14,7 +14,7 @@ use Rattle.report.specs.Ports.{ports_of}
 use Rattle.report.specs.Tables.{tables_text}
 use Rattle.report.specs.Database.{db_text}
 use Rattle.report.specs.Adjacencies.{adj_text}
-use Rattle.report.specs.Lines.{path_text, drops_text, out_text, state_text, error_text}
+use Rattle.report.specs.Lines.{path_text, drops_text, out_text, state_text, settle_text, error_text}
 use Rattle.report.specs.Changes.{whatif_text}
 use Rattle.report.specs.Checking.{proof_text, check_yes_text, check_no_text}
 
@@ -75,6 +75,10 @@ OutIsLine = (name : List ℕ) (port : ℕ) (frame : List ℕ) → IsName name �
 
 abbrev pub StateIsLine : Type 0
 StateIsLine = (failing : List ℕ) → HasLines 1 (state_text failing)
+
+abbrev pub SettleIsLine : Type 0
+SettleIsLine = (rounds : ℕ) (why : Option (List ℕ)) → ((word : List ℕ) → why ≡ Some word → LacksNewline word)
+    → HasLines 1 (settle_text rounds why)
 
 abbrev pub ErrorIsLine : Type 0
 ErrorIsLine = (at number : ℕ) (name : List ℕ) (column : Option ℕ) → LacksNewline name

@@ -28,6 +28,15 @@ state_words (q ∷ qs) = codes "busy" ∷ map (λ n. codes "q" ++ decimal n) (q 
 unfoldable pub state_text : List ℕ → List ℕ
 state_text failing = line (codes "state") (state_words failing)
 
+-- what settling came to: quiet, or busy and why
+abbrev pub settle_words : Option (List ℕ) → List (List ℕ)
+settle_words None = codes "quiet" ∷ []
+settle_words (Some why) = codes "busy" ∷ why ∷ []
+
+-- settling, after so many rounds: `settle K quiet`, or `settle K busy WHY`
+unfoldable pub settle_text : ℕ → Option (List ℕ) → List ℕ
+settle_text rounds why = line (codes "settle") (decimal rounds ∷ settle_words why)
+
 -- the column of a word that doesn't fit, where one is given
 abbrev pub column_words : Option ℕ → List (List ℕ)
 column_words None = []

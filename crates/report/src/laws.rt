@@ -1,5 +1,5 @@
 //! The laws of the texts. Each is the contract of a function that does nothing.
-ghost use Rattle.report.specs.Laws.{PortsAreThoseOfTheSet, TablesHaveLines, DatabaseHasLines, AdjacenciesHaveLines, ChangesHaveLines, PathIsLine, DropsIsLine, OutIsLine, StateIsLine, ErrorIsLine, ProofIsLine, YesIsLine, NoIsLine};
+ghost use Rattle.report.specs.Laws.{PortsAreThoseOfTheSet, TablesHaveLines, DatabaseHasLines, AdjacenciesHaveLines, ChangesHaveLines, PathIsLine, DropsIsLine, OutIsLine, StateIsLine, SettleIsLine, ErrorIsLine, ProofIsLine, YesIsLine, NoIsLine};
 
 /// The ports that are written for a set are just those of the set, ascending.
 pub fn ports_are_those_of_the_set()
@@ -17,6 +17,7 @@ pub fn answers_are_lines()
     ensures drops { DropsIsLine }
     ensures out { OutIsLine }
     ensures state { StateIsLine }
+    ensures settle { SettleIsLine }
     ensures error { ErrorIsLine }
     ensures proof { ProofIsLine }
     ensures yes { YesIsLine }

@@ -10,7 +10,7 @@ pub use changes::whatif_text;
 pub use checking::{check_no_text, check_yes_text, proof_text};
 pub use database::db_text;
 pub use laws::{answers_are_lines, ports_are_those_of_the_set};
-pub use lines::{drops_text, error_text, out_text, path_text, state_text, try_text};
+pub use lines::{drops_text, error_text, out_text, path_text, settle_text, state_text, try_text};
 pub use tables::tables_text;
 
 mod adjacencies;

@@ -1,5 +1,6 @@
-//! The texts of one line: a path, counts of drops, a frame that leaves, the state, an error, and what `try` counted.
-ghost use Rattle.std.specs.Prelude.{◌≡◌, ◌++◌, codes, decimal, map, OnOk, IfOk};
+//! The texts of one line: a path, counts of drops, a frame that leaves, the state, what settling
+//! came to, an error, and what `try` counted.
+ghost use Rattle.std.specs.Prelude.{◌≡◌, ◌++◌, codes, decimal, map, option_map, OnOk, IfOk};
 ghost use Rattle.std.specs.List.{flat_map};
 ghost use Rattle.report.specs.Lines as texts;
 ghost use Rattle.report.specs.Words.{spaced};
@@ -121,6 +122,34 @@ fn put_conditions(text: &mut Text, failing: &[u8]) -> Result<(), NoMemory>
         text.decimal(u64::from(*condition))?;
     }
     Ok(())
+}
+
+/// The answer that tells what settling came to after so many rounds: `settle K quiet` where there is no reason, and else
+/// `settle K busy WHY`.
+#[tactic(auto, unfolding(crate::specs::Lines::settle_text))]
+pub fn settle_text(alloc: Global, rounds: u32, why: Option<&str>) -> Result<Vec<u8>, NoMemory>
+    ensures { IfOk result
+        (λ bytes. bytes.items ≡ texts.settle_text rounds (option_map (λ word. word.now) why.entry)) }
+{
+    let mut text = Text::with_room(alloc, LINE)?;
+    text.push(b"settle")?;
+    text.number(u64::from(rounds))?;
+    put_settled(&mut text, why)?;
+    text.end()?;
+    Ok(text.into_bytes())
+}
+
+fn put_settled(text: &mut Text, why: Option<&str>) -> Result<(), NoMemory>
+    ensures { OnOk result (text.new ≡ text.old
+        ++ flat_map spaced (texts.settle_words (option_map (λ word. word.now) why.entry))) }
+{
+    match why {
+        None => text.word(b"quiet"),
+        Some(word) => {
+            text.word(b"busy")?;
+            text.word(word.as_bytes())
+        }
+    }
 }
 
 /// The answer to a refused line: `error LINE NUMBER NAME`, with the number of the line from 1, and the number and name

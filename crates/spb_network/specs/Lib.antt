@@ -3,3 +3,4 @@ pub mod Numbers
 pub mod Applying
 pub mod Halting
 pub mod Watching
+pub mod Contents

@@ -34,6 +34,7 @@ pub use spb_world::{DeclaredBridge, DeclaredLink, LinkEnd, Reason, World};
 
 mod apply_error;
 mod boxes;
+mod contents;
 mod customers;
 mod events;
 mod laws;

@@ -9,6 +9,7 @@ ghost use Rattle.spb_network.specs.Applying.{IsReady, IsSoundNetwork};
 ghost use Rattle.spb_network.specs.Network.{state_of, AreConfigured};
 ghost use Rattle.network_model.specs.State.{IsPortAt, links_of};
 ghost use Rattle.network_model.specs.Quiet.{holds_q1, holds_q2, holds_q3, failing, unless_holds};
+ghost use Rattle.network_model.specs.Questions as question;
 ghost use Rattle.network_model.specs.Quieting.{is_end_up, is_link_up, conditions_of, numbers_of};
 
 use crate::{LinkEnd, NetworkOf};
@@ -162,6 +163,17 @@ impl<B: Bridge> NetworkOf<B> {
     {
         let found = self.conditions();
         self.conditions = Some(found);
+    }
+
+    /// Whether the network is quiet: none of the conditions of quiet fails. Takes no memory.
+    #[tactic(auto, unfolding(network_model::specs::Quiet::failing))]
+    pub fn is_quiet(&self) -> bool
+        requires halted { self.now.halted ≡ false }
+        requires ready { IsReady B.shown self.now }
+        ensures { result ≡ question.is_quiet (state_of B.shown self.now) }
+    {
+        let found = self.conditions();
+        found.links && found.lanes && found.flags
     }
 
     /// The numbers of the conditions of quiet that fail, in ascending order: 1 both ends of each link that is up are

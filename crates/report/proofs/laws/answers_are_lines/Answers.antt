@@ -1,4 +1,4 @@
-use Rattle.report.proofs.LineCounts.{tables_have_lines, database_has_lines, adjacencies_have_lines, path_is_line, drops_is_line, out_is_line, state_is_line, error_is_line}
+use Rattle.report.proofs.LineCounts.{tables_have_lines, database_has_lines, adjacencies_have_lines, path_is_line, drops_is_line, out_is_line, state_is_line, settle_is_line, error_is_line}
 use Rattle.report.proofs.CheckingLines.{changes_have_lines, proof_is_line, yes_is_line, no_is_line}
 use Rattle.report.proofs.laws.answers_are_lines.Goals as goal
 
@@ -22,6 +22,9 @@ returns-clause-out c = out_is_line
 
 pub returns-clause-state : goal.returns-clause-state
 returns-clause-state c = state_is_line
+
+pub returns-clause-settle : goal.returns-clause-settle
+returns-clause-settle c = settle_is_line
 
 pub returns-clause-error : goal.returns-clause-error
 returns-clause-error c = error_is_line
