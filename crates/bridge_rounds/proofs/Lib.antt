@@ -24,3 +24,5 @@ pub mod SpentNumbers
 pub mod DueSummaries
 mod MailFits
 mod LspHeld
+mod StayingUp
+mod SaysSame
