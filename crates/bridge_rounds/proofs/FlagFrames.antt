@@ -146,9 +146,11 @@ module _ (up : PortSet) (q : ℕ) (is_up : has up q ≡ true) where
     where
       cleared : {o n : Option Entry} → IsClearedAt q o n → ClearsAt q c.id (c ∷ []) o n
       cleared is = record { srm_stays = is.srm_stays; srm = λ a claimed some. is.srm some; ssn = is.ssn }
+
       named : {a : Version} → (x ≡ c.id → ⊥) → ((c.id ≡ x) × (c.version ≡ a)) ⊎ ⊥ → ⊥
       named other (inl is) = other (sym is.0)
       named other (inr none) = none
+
       left : {o n : Option Entry} → (x ≡ c.id → ⊥) → AreSame q o n → ClearsAt q x (c ∷ []) o n
       left other same = record { srm_stays = λ off. same.srm ∙ off; srm = λ a claimed some. absurd (named other claimed); ssn = same.ssn }
 

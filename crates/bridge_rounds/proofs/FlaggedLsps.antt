@@ -119,9 +119,10 @@ module _ (again : ControlAgain) (up : PortSet) (system : SystemId) (q : ℕ) (po
       (all_mapped (λ (c : CsnpValue). (q, csnp_frame system c)) (λ s. IsNoLsp s.1) (csnps_of system db)
       (all_mapped (csnp_for system) (λ (c : CsnpValue). IsNoLsp (csnp_frame system c)) (csnp_chunks db)
       (has_all (λ (chunk : CsnpChunk). IsNoLsp (csnp_frame system (csnp_for system chunk))) (csnp_chunks db)
-      (λ chunk among. csnp_is_no_lsp again system six chunk
-      (all_has (λ (c : CsnpChunk). length c.entries ≤ 90) chunk (csnp_chunks db) (csnp_chunks_are_short db) among,
-      all_has (λ (c : CsnpChunk). IsLspId c.start × IsLspId c.end) chunk (csnp_chunks db) (csnp_chunks_end_at_ids db (λ id e at. (held.sized id e at).named)) among)
+      (λ chunk among. csnp_is_no_lsp again system six chunk (
+        all_has (λ (c : CsnpChunk). length c.entries ≤ 90) chunk (csnp_chunks db) (csnp_chunks_are_short db) among,
+        all_has (λ (c : CsnpChunk). IsLspId c.start × IsLspId c.end) chunk (csnp_chunks db) (csnp_chunks_end_at_ids db (λ id e at. (held.sized id e at).named)) among,
+      )
       (all_has (λ (c : CsnpChunk). AllByRecursion IsSizedEntry c.entries) chunk (csnp_chunks db) (csnp_entries_are_sized db held.sized) among)))))
 
   requests_are_no_lsps : AllByRecursion (λ s. IsNoLsp s.1) (requests_at system q db)
