@@ -24,3 +24,5 @@ pub mod FlaggedLsps
 pub mod LinkFrames
 pub mod SpentNumbers
 pub mod DueSummaries
+mod StayingUp
+mod SaysSame

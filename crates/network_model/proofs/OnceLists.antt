@@ -14,8 +14,8 @@ use Rattle.spb_types.specs.declared.service.Isid.{Isid}
 use Rattle.link_model.specs.Lane.{Frame}
 use Rattle.forwarding.specs.Ports.{is_in, is_receiver, receiving_ports, ports_in, but_for}
 use Rattle.forwarding.specs.Receiving.{IsReceivingTo}
-use Rattle.forwarding.specs.Tenant.{each_with}use Rattle.bridge_api.specs.Step.{frames_at}
-
+use Rattle.forwarding.specs.Tenant.{each_with}
+use Rattle.bridge_api.specs.Step.{frames_at}
 
 -- ---- the frames at a port
 
