@@ -22,3 +22,4 @@ pub mod FlagAcked
 pub mod LinkFlags
 pub mod FlaggedLsps
 pub mod LinkFrames
+pub mod OwnLives
