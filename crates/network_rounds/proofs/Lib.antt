@@ -9,3 +9,5 @@ pub mod BridgeLaws
 pub mod Start
 pub mod Coming
 pub mod Passing
+pub mod Ends
+pub mod Lasting
