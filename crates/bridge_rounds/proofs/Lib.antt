@@ -23,3 +23,5 @@ pub mod LinkFlags
 pub mod FlaggedLsps
 pub mod LinkFrames
 pub mod OwnLives
+pub mod SpentNumbers
+pub mod DueSummaries
