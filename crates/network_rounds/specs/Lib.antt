@@ -3,4 +3,5 @@ pub mod Near
 pub mod Along
 pub mod Premises
 pub mod Settling
+pub mod Flags
 pub mod Steady
