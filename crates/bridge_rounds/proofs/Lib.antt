@@ -25,3 +25,5 @@ pub mod LinkFrames
 pub mod OwnLives
 pub mod SpentNumbers
 pub mod DueSummaries
+pub mod StayingUp
+pub mod SaysSame
