@@ -12,3 +12,5 @@ pub mod Coming
 pub mod Passing
 pub mod Ends
 pub mod Lasting
+pub mod Undue
+pub mod SteadyRounds
