@@ -22,7 +22,8 @@ pub mod FlagAcked
 pub mod LinkFlags
 pub mod FlaggedLsps
 pub mod LinkFrames
+pub mod OwnLives
 pub mod SpentNumbers
 pub mod DueSummaries
-mod StayingUp
-mod SaysSame
+pub mod StayingUp
+pub mod SaysSame

@@ -10,3 +10,7 @@ pub mod BridgeLaws
 pub mod Start
 pub mod Coming
 pub mod Passing
+pub mod Ends
+pub mod Lasting
+pub mod Undue
+pub mod SteadyRounds
