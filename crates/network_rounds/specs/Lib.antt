@@ -1,3 +1,5 @@
 pub mod Rounds
+pub mod Near
+pub mod Along
 pub mod Premises
 pub mod Settling

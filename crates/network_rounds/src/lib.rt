@@ -3,6 +3,6 @@
 //! There is no code here: each law is the contract of a function that does nothing.
 #![tactic(auto)]
 
-pub use laws::rounds_are_heard;
+pub use laws::{bridges_are_near, rounds_are_heard, rounds_keep_networks_sound};
 
 mod laws;
