@@ -5,3 +5,10 @@ pub mod Lanes
 pub mod Near
 pub mod Chain
 pub mod Along
+pub mod BridgeLaws
+pub mod Start
+pub mod Coming
+pub mod Passing
+pub mod Facts
+pub mod FactsRise
+pub mod FactsStand

@@ -3,3 +3,5 @@ pub mod Near
 pub mod Along
 pub mod Premises
 pub mod Settling
+pub mod Steady
+pub mod Agreement
