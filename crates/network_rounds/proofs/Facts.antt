@@ -89,6 +89,11 @@ pub kept_up : (v : BridgeView) (p : ℕ) (end : End) → IsKeptUp v p end → is
 unfolding is_up_at adjacency_at
 kept_up v p end is = kept_up_in (port_at v p) is.adjacency is.there is.up
 
+-- ---- what a bridge holds under an id
+
+version_held : (w : BridgeView) (id : LspId) (a : Version) → IsHeldAt w id a → a ≡ version_at w.database id
+version_held w id a held = held.2 ∙ ap version_in (sym held.1)
+
 module _ (ids : List LspId) (m allowance : ℕ) (s t : State) (one : IsSteadyStep ids m allowance s t) where
   -- ---- before and after
 
@@ -155,5 +160,5 @@ module _ (ids : List LspId) (m allowance : ℕ) (s t : State) (one : IsSteadySte
       record {
         place = place;
         link = record { place = c.place; dir = c.dir; link = c.link; there = c.there; live = live; near = refl; far = c.bridge };
-        is = held.2 ∙ (ap version_in (sym held.1) ∙ held_second place u id near.1);
+        is = version_held (step second u) id a held ∙ held_second place u id near.1;
       }

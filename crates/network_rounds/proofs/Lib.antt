@@ -12,3 +12,7 @@ pub mod Passing
 pub mod Facts
 pub mod FactsRise
 pub mod FactsStand
+pub mod FactsPush
+pub mod FactsCome
+pub mod Sequence
+pub mod Agreed
