@@ -1,5 +1,5 @@
 -- Where all that is claimed of an id is at most what is held, its version stands.
-use Rattle.std.proofs.Common.{◌≡◌, ◌≢◌, inl, inr, ℕ, ◌-◌, Bool, true, false, List, [], ◌∷◌, refl, sym, ap, ◌∙◌, subst, Option, Some, None}
+use Rattle.std.proofs.Common.{◌≡◌, inl, inr, ℕ, ◌-◌, Bool, true, false, List, [], ◌∷◌, refl, sym, ap, ◌∙◌, subst, Option, Some, None}
 use Rattle.std.specs.Prelude.{◌&&◌, slice_set, if◌then◌else◌}
 use Rattle.std.specs.FinMap.{get}
 use Rattle.std.proofs.lemmas.Bool.{true≢false}
@@ -16,7 +16,7 @@ use Rattle.lsdb.specs.Certificate.{Claim, IsClaimed}
 use Rattle.lsdb.proofs.LookupLemmas.{get-each, same_or_not}
 use Rattle.flooding.specs.declared.own.Own.{Own}
 use Rattle.flooding.specs.Own.{own_number, answered}
-use Rattle.flooding.specs.Hearing.{Holding, claim_of, lsp_rule, snp_rule, is_beyond, heard_by, after_claim, is_full, hear_entry_of}
+use Rattle.flooding.specs.Hearing.{Holding, claim_of, lsp_rule, snp_rule, is_beyond, after_claim, is_full, hear_entry_of}
 use Rattle.flooding.specs.Settling.{settled, IsLspCurrent}
 use Rattle.flooding.proofs.Claimed.{SaysOfHeld, lsp_rule_says, snp_rule_says, others_stand, heard_stands, full_stands}
 use Rattle.flooding.proofs.Heard.{Rule}
@@ -30,7 +30,7 @@ use Rattle.bridge_api.specs.View.{BridgeView, with_port_at, up_ports}
 use Rattle.bridge_api.specs.Own.{neighbours_from, bodies_of, body_at, own_entry, holding_of, originated_if_changed}
 use Rattle.bridge_api.specs.Parsing.{Parsed, parsed}
 use Rattle.bridge_api.specs.Parsing as parsing
-use Rattle.bridge_api.specs.Hearing.{with_csnp_due, with_adjacency, left_up, all_srm_set_at, changed_at, heard_lsp, heard_csnp, heard_psnp}
+use Rattle.bridge_api.specs.Hearing.{with_csnp_due, with_adjacency, left_up, all_srm_set_at, changed_at}
 use Rattle.bridge_api.specs.Step.{frame, step}
 use Rattle.bridge_api.specs.Laws.{IsSoundView, claims_said, claims_or_none}
 use Rattle.bridge_api.proofs.Bodies.{held_bodies, moved_bodies, same_at}
@@ -38,7 +38,6 @@ use Rattle.bridge_api.proofs.Changes.{FrameStep, idle, by_hello, by_lsp, by_csnp
 use Rattle.bridge_api.proofs.OwnLspSteps.{IsSaying, was_saying, saying_settles, mapped_says, neighbours_with_csnp_due, lsp_settles_nothing, csnp_settles_nothing, psnp_settles_nothing}
 use Rattle.bridge_api.proofs.Sound.{steps_stay_sound}
 use Rattle.bridge_laws.proofs.Learning.{LeavesLsp, each_same, spared_same, missed_same, LeavesWithin, lsp_rule_leaves, snp_rule_leaves}
-use Rattle.bridge_rounds.specs.Inbox.{Inbox, heard_all, SaysTheSameOn}
 use Rattle.bridge_rounds.specs.Versions.{AtMostStands}
 use Rattle.bridge_rounds.proofs.Folds.{claim_first, claim_later}
 

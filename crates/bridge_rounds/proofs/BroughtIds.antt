@@ -27,7 +27,6 @@ use Rattle.flooding.proofs.Claimed.{heard_of, lacks, entered, db_after, others_s
 use Rattle.flooding.proofs.OwnNumbers.{own_is_number}
 use Rattle.flooding.proofs.Settled.{settling_leaves_others, settling_stands}
 use Rattle.snp_sync.specs.Hearing.{claims_in, hear_entries_of, ids_of, is_missed, flag_if}
-use Rattle.spb_content.specs.declared.local.Local.{Local}
 use Rattle.spb_content.specs.Local.{service_tlvs}
 use Rattle.spb_content.specs.Members.{merged}
 use Rattle.spb_content.specs.Fragments.{part_of, unless_none, fragment}
@@ -38,7 +37,7 @@ use Rattle.bridge_api.specs.declared.port.BridgePort.{BridgePort}
 use Rattle.bridge_api.specs.View.{BridgeView, with_port_at, up_ports}
 use Rattle.bridge_api.specs.Own.{member_of, local_of, body_at, own_entry, holding_of, originated_if_changed}
 use Rattle.bridge_api.specs.Parsing.{Parsed, parsed}
-use Rattle.bridge_api.specs.Hearing.{with_adjacency, left_up, changed_at, heard_lsp, heard_csnp, heard_psnp}
+use Rattle.bridge_api.specs.Hearing.{with_adjacency, left_up, changed_at}
 use Rattle.bridge_api.specs.Duties.{but_for_ssn}
 use Rattle.bridge_api.specs.Ticking.{readied}
 use Rattle.bridge_api.specs.Step.{Input, second, frame, carrier, metric, attach, detach, customer, step}

@@ -1,7 +1,6 @@
 -- Of another system a version is held after a round that was held or claimed, where no two live ones of one number meet.
 use Rattle.std.proofs.Common.{◌≡◌, ◌≢◌, ◌≤◌, inl, inr, ℕ, List, [], ◌∷◌, refl, sym, ap, ◌∙◌, subst, Option, Some, None, Result, Ok, Err, arith}
 use Rattle.std.specs.FinMap.{get}
-use Rattle.spb_types.specs.declared.address.SystemId.{SystemId}
 use Rattle.spb_types.specs.declared.address.LspId.{LspId}
 use Rattle.spb_tlvs.specs.declared.entries.SnpEntry.{SnpEntry}
 use Rattle.spb_tlvs.specs.declared.error.TlvError.{TlvError}
@@ -11,7 +10,7 @@ use Rattle.lsdb.specs.Version.{number_of}
 use Rattle.lsdb.specs.Laws.{AreTwoLives}
 use Rattle.lsdb.specs.Entry.{Entry}
 use Rattle.lsdb.specs.Database.{version_in, version_at}
-use Rattle.lsdb.specs.Certificate.{Claim, IsClaimed}
+use Rattle.lsdb.specs.Certificate.{IsClaimed}
 use Rattle.flooding.specs.Entries.{IsNumbered}
 use Rattle.flooding.proofs.SendableEntries.{claim_is_numbered}
 use Rattle.snp_sync.specs.Reading.{entries_in}
@@ -19,7 +18,7 @@ use Rattle.snp_sync.specs.Hearing.{claims_in}
 use Rattle.bridge_api.specs.View.{BridgeView}
 use Rattle.bridge_api.specs.Parsing.{Parsed, parsed}
 use Rattle.bridge_api.specs.Parsing as parsing
-use Rattle.bridge_api.specs.Step.{Input, second, frame, step}
+use Rattle.bridge_api.specs.Step.{second, frame, step}
 use Rattle.bridge_api.specs.Laws.{IsSoundView, claims_said, claims_or_none}
 use Rattle.bridge_api.proofs.Certified.{steps_keep_bridge}
 use Rattle.bridge_laws.specs.Counting.{IsKnown, is_held, is_claimed, Learned, takes, ends}
@@ -95,9 +94,10 @@ module _ (v : BridgeView) (fs : Inbox) (id : LspId) (was : IsSoundView v) (apart
       (mail_keeps (λ (u : BridgeView). (u.id.system ≡ v.id.system) × Known (version_at u.database id)) fs v
       (λ q bytes u sent kept.
       let late : frame q bytes ≢ second = λ e. absurd cc in
-      let learned = steps_learn_versions (frame q bytes) u id (λ e. other (e ∙ kept.0)) late in
-      (ap (λ x. x.system) (steps_keep_bridge (frame q bytes) u).id ∙ kept.0,
-      learned_known q bytes (version_at u.database id) kept.1 (λ a claimed. inr (q, claim_at fs q bytes id a sent claimed)) (version_at (step (frame q bytes) u).database id) learned)) first).1
+      let learned = steps_learn_versions (frame q bytes) u id (λ e. other (e ∙ kept.0)) late in (
+        ap (λ x. x.system) (steps_keep_bridge (frame q bytes) u).id ∙ kept.0,
+        learned_known q bytes (version_at u.database id) kept.1 (λ a claimed. inr (q, claim_at fs q bytes id a sent claimed)) (version_at (step (frame q bytes) u).database id) learned,
+      )) first).1
 
 pub versions_come_from : VersionsComeFrom
 versions_come_from v fs id was other apart = known_after v fs id was apart other (refl, inl refl)

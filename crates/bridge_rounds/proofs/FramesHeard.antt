@@ -1,5 +1,5 @@
 -- What a frame that comes to a bridge makes it send and let out, and what it leaves of adjacencies.
-use Rattle.std.proofs.Common.{◌≡◌, ℕ, Bool, true, false, List, [], refl, ap, Option, Some, None}
+use Rattle.std.proofs.Common.{◌≡◌, ℕ, Bool, true, false, List, refl, ap, Option, Some, None}
 use Rattle.std.specs.Prelude.{if◌then◌else◌}
 use Rattle.std.proofs.lemmas.Bool.{true≢false}
 use Rattle.forwarding.specs.declared.moved.Moved.{Moved}

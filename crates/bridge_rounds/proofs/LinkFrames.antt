@@ -1,12 +1,11 @@
 -- What comes over a link in a round tells of each LSP what its sender holds, and has to send or to acknowledge.
-use Rattle.std.proofs.Common.{◌≡◌, ◌≢◌, inl, inr, ◌≤◌, ◌<◌, ◌-◌, ℕ, zero, suc, Bool, true, false, List, [], ◌∷◌, length, map, filter, refl, sym, ap, ◌∙◌, subst, Option, Some, None, Result, Ok, Err, arith}
+use Rattle.std.proofs.Common.{◌≡◌, ◌≢◌, inl, inr, ◌-◌, ℕ, suc, Bool, true, false, List, [], ◌∷◌, map, refl, sym, ap, ◌∙◌, subst, Option, Some, None, Result, Ok, arith}
 use Rattle.std.specs.Prelude.{◌==◌, nat_le, slice_get, flat_map, Contains, if◌then◌else◌}
 use Rattle.std.specs.List.{AllByRecursion}
 use Rattle.std.specs.Option.{option_map}
 use Rattle.std.specs.FinMap.{get, entries}
 use Rattle.std.proofs.lemmas.Bool.{true≢false, eq-eqb, eqb-true}
 use Rattle.std.proofs.lemmas.Option.{slice_get-map}
-use Rattle.spb_types.specs.declared.address.SystemId.{SystemId}
 use Rattle.spb_types.specs.declared.address.LspId.{LspId}
 use Rattle.spb_types.specs.Ports.{has}
 use Rattle.spb_types.proofs.PortLemmas.{has-no_ports}
@@ -33,7 +32,7 @@ use Rattle.bridge_api.specs.View.{BridgeView, port_in, port_at, is_up_in, is_up_
 use Rattle.bridge_api.specs.Parsing.{Parsed, parsed}
 use Rattle.bridge_api.specs.Parsing as parsing
 use Rattle.bridge_api.specs.Hearing.{with_csnp_due}
-use Rattle.bridge_api.specs.Ticking.{readied, lsp_frame, psnp_frame, after_sending, after_tick}
+use Rattle.bridge_api.specs.Ticking.{readied, lsp_frame, psnp_frame, after_tick}
 use Rattle.bridge_api.specs.Step.{second, step, sent, frames_at}
 use Rattle.bridge_api.specs.Laws.{IsSoundView, IsSent, IsHeldAt, claims_said, claims_or_none}
 use Rattle.bridge_api.specs.Duties.{but_for_ssn}
@@ -44,10 +43,10 @@ use Rattle.bridge_api.proofs.Serving.{seconds_serve, seconds_leave_nothing_due}
 use Rattle.bridge_laws.proofs.Frames.{sent_is_sound}
 use Rattle.bridge_rounds.specs.Inbox.{Inbox, claims_at}
 use Rattle.bridge_rounds.specs.Seconds.{IsCalmSecond}
-use Rattle.bridge_rounds.specs.FlagLaws.{HasSrm, HasNoSrm, HasSsn, HasNoLspOf}
+use Rattle.bridge_rounds.specs.FlagLaws.{HasNoSrm}
 use Rattle.bridge_rounds.specs.LinkFlags.{StandsStill, HasLspOf, IsSentOver}
 use Rattle.bridge_rounds.specs.LinkFrames.{IsToldAt, SsnIsTold, ComesOver, FramesTell}
-use Rattle.bridge_rounds.proofs.Folds.{at_port, claim_at, claim_comes}
+use Rattle.bridge_rounds.proofs.Folds.{claim_at, claim_comes}
 use Rattle.bridge_rounds.proofs.FlaggedLsps.{same_srm, lsps_are_flagged}
 
 -- ---- what has SSN is told
@@ -117,7 +116,7 @@ calm_stands v id was calm =
     }
 
 -- a port that is Up stays so until the bridge sends
-due_up : (o : Option BridgePort) → is_up_in (option_map (with_csnp_due false) o) ≡ is_up_in o
+pub due_up : (o : Option BridgePort) → is_up_in (option_map (with_csnp_due false) o) ≡ is_up_in o
 due_up None = refl
 due_up (Some port) = refl
 
@@ -125,7 +124,7 @@ port_map_by : (b : Bool) (f : BridgePort → BridgePort) (k : ℕ) (ports : List
 port_map_by true f k ports = slice_get-map f ports k
 port_map_by false f k ports = refl
 
-port_map : (f : BridgePort → BridgePort) (k : ℕ) (ports : List BridgePort) → port_in (map f ports) k ≡ option_map f (port_in ports k)
+pub port_map : (f : BridgePort → BridgePort) (k : ℕ) (ports : List BridgePort) → port_in (map f ports) k ≡ option_map f (port_in ports k)
 port_map f k ports = port_map_by (nat_le 1 k) f (k - 1) ports
 
 -- ---- frames at a port
@@ -144,7 +143,7 @@ sent_contains (s ∷ ss) q bytes (inl here) =
     subst (λ (b : List ℕ). Contains (frames_at q (s ∷ ss)) b) here.1 (first_contains (s.0 == q) s.1 (frames_at q ss) (eq-eqb s.0 q here.0))
 sent_contains (s ∷ ss) q bytes (inr there) = later_contains (s.0 == q) s.1 (frames_at q ss) bytes (sent_contains ss q bytes there)
 
-all_at : (P : List ℕ → Type 0) (q : ℕ) (ss : Inbox) → ((bytes : List ℕ) → IsSent ss q bytes → P bytes) → AllByRecursion P (frames_at q ss)
+pub all_at : (P : List ℕ → Type 0) (q : ℕ) (ss : Inbox) → ((bytes : List ℕ) → IsSent ss q bytes → P bytes) → AllByRecursion P (frames_at q ss)
 all_at P q [] each_one = tt
 all_at P q (s ∷ ss) each_one = by (s.0 == q) refl (all_at P q ss (λ bytes some. each_one bytes (inr some)))
   where

@@ -1,13 +1,13 @@
 -- No version falls in a round, and an LSP that comes at a port that stays Up is at most what is held after all.
-use Rattle.std.proofs.Common.{◌≡◌, ℕ, Bool, true, false, List, [], ◌∷◌, refl, sym, ap, ◌∙◌, subst, Option, Some, None}
+use Rattle.std.proofs.Common.{◌≡◌, ℕ, Bool, true, List, [], ◌∷◌, refl, sym, ap, ◌∙◌, subst, Option, Some, None}
 use Rattle.std.specs.Prelude.{if◌then◌else◌}
 use Rattle.spb_types.specs.declared.address.LspId.{LspId}
 use Rattle.spb_types.specs.declared.drop_reason.DropReason.TheVariants as drop
 use Rattle.isis_pdu.specs.Pdu.{LspValue}
 use Rattle.lsdb.specs.Version.{IsAtMost}
-use Rattle.lsdb.specs.Database.{Lsps, version_at}
+use Rattle.lsdb.specs.Database.{version_at}
 use Rattle.lsdb.proofs.Order.{itself, through}
-use Rattle.flooding.specs.Hearing.{claim_of, lsp_rule, hear_lsp_of}
+use Rattle.flooding.specs.Hearing.{claim_of, lsp_rule}
 use Rattle.flooding.proofs.AtMostHeld.{heard_is_at_most_held}
 use Rattle.flooding.proofs.Claimed.{fitting_is_not_full}
 use Rattle.adjacency.specs.declared.state.AdjState.{AdjState}
@@ -16,18 +16,18 @@ use Rattle.adjacency.specs.declared.port.Adjacency.{Adjacency}
 use Rattle.adjacency.specs.Hearing.{End}
 use Rattle.adjacency.specs.Adjacency.{SoundIn, is_up}
 use Rattle.bridge_api.specs.declared.port.BridgePort.{BridgePort}
-use Rattle.bridge_api.specs.View.{BridgeView, port_at, is_port_up, is_up_in, is_up_at, up_ports}
+use Rattle.bridge_api.specs.View.{BridgeView, port_at, is_up_in, is_up_at, up_ports}
 use Rattle.bridge_api.specs.Own.{holding_of, originated_if_changed}
 use Rattle.bridge_api.specs.Parsing.{Parsed, parsed}
 use Rattle.bridge_api.specs.Parsing as parsing
 use Rattle.bridge_api.specs.Hearing.{after_drop, heard_lsp, heard_as, heard_at, after_receive}
-use Rattle.bridge_api.specs.Step.{frame, step, frames_at}
+use Rattle.bridge_api.specs.Step.{frame, step}
 use Rattle.bridge_api.specs.Laws.{IsSoundView}
 use Rattle.bridge_api.proofs.OwnLspSteps.{lsp_settles_nothing}
 use Rattle.bridge_api.proofs.Sound.{steps_stay_sound}
 use Rattle.bridge_api.proofs.SoundPorts.{sound_at}
 use Rattle.bridge_laws.proofs.StepsCarry.{steps_carry_database}
-use Rattle.bridge_rounds.specs.Inbox.{Inbox, heard_all, StaysUp}
+use Rattle.bridge_rounds.specs.Inbox.{Inbox, StaysUp}
 use Rattle.bridge_rounds.specs.Mail.{HoldsOn, HasRoom}
 use Rattle.bridge_rounds.specs.Versions.{MailRises, LspIsHeld}
 use Rattle.bridge_rounds.proofs.Folds.{mail_keeps, mail_brings, both_hold, at_port}
@@ -49,7 +49,7 @@ mail_rises v fs id was =
 
 -- ---- an LSP at a port that is Up
 
-up_carrier : (s : AdjState) (a : Adjacency) → is_up s ≡ true → SoundIn s a → a.carrier ≡ true
+pub up_carrier : (s : AdjState) (a : Adjacency) → is_up s ≡ true → SoundIn s a → a.carrier ≡ true
 up_carrier Down a up sound = absurd cc
 up_carrier Initializing a up sound = absurd cc
 up_carrier Up a up sound = sound.1

@@ -1,10 +1,10 @@
 -- A bridge that holds and hears of some ids alone holds them alone; and where these are few, every id has room.
-use Rattle.std.proofs.Common.{◌≡◌, inl, inr, ◌≤◌, ◌<◌, ℕ, Bool, true, false, List, [], ◌∷◌, map, length, refl, sym, ap, ◌∙◌, Option, Some, None, arith}
-use Rattle.std.specs.Prelude.{◌&&◌, is_some, IsSome, Contains}
-use Rattle.std.specs.List.{AllByRecursion, list_any}
+use Rattle.std.proofs.Common.{◌≡◌, inl, inr, ◌≤◌, ℕ, Bool, true, false, List, [], ◌∷◌, map, length, refl, sym, ◌∙◌, Option, Some, None, arith}
+use Rattle.std.specs.Prelude.{◌&&◌, is_some, Contains}
+use Rattle.std.specs.List.{AllByRecursion}
 use Rattle.std.specs.List.Sorted.{IsStrictlySortedBy}
 use Rattle.std.specs.declared.cmp.Ordering.TheVariants.{Less}
-use Rattle.std.specs.Ordering.{is_lt, eq_by_cmp}
+use Rattle.std.specs.Ordering.{is_lt}
 use Rattle.std.specs.FinMap.{get, entries, entries_sorted, keys, len, len-entries, contains_key-keys}
 use Rattle.std.specs.FinMap.Entries.{below_all, is_sorted}
 use Rattle.std.proofs.lemmas.Bool.{true≢false}
@@ -26,7 +26,7 @@ use Rattle.bridge_api.specs.Step.{frame, step}
 use Rattle.bridge_api.specs.Laws.{IsSoundView, IsSent}
 use Rattle.bridge_api.proofs.Sound.{steps_stay_sound}
 use Rattle.bridge_rounds.specs.Inbox.{Inbox, heard_all, IsMail, HoldsWithin}
-use Rattle.bridge_rounds.specs.Mail.{HoldsOn, MailHoldsWithin, HasRoom, MailFits}
+use Rattle.bridge_rounds.specs.Mail.{MailHoldsWithin, HasRoom, MailFits}
 use Rattle.bridge_rounds.proofs.BroughtIds.{rounds_hold_ids}
 use Rattle.bridge_rounds.proofs.Folds.{mail_holds, holds_so, claim_at}
 

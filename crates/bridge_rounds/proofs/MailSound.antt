@@ -1,14 +1,13 @@
 -- A sound bridge is sound after each frame of a round, and the same bridge.
 use Rattle.std.proofs.Common.{ℕ, ◌≤◌, List, refl, sym, ◌∙◌, subst}
-use Rattle.bridge_api.specs.View.{BridgeView, IsPort, has_carrier_at}
+use Rattle.bridge_api.specs.View.{BridgeView}
 use Rattle.bridge_api.specs.Step.{frame, step}
 use Rattle.bridge_api.specs.Laws.{IsSoundView}
 use Rattle.bridge_api.proofs.Carriers.{steps_keep_carrier}
 use Rattle.bridge_api.proofs.Certified.{steps_keep_bridge}
 use Rattle.bridge_api.proofs.Sound.{steps_stay_sound}
-use Rattle.bridge_rounds.specs.Inbox.{Inbox, heard_all}
 use Rattle.bridge_rounds.specs.Mail.{MailIsSound, IsSameBridgeAs, MailKeepsBridge}
-use Rattle.bridge_rounds.proofs.Folds.{mail_holds, mail_keeps, at_port, claim_at, claim_comes, mail_brings, held_first, held_last}
+use Rattle.bridge_rounds.proofs.Folds.{mail_holds, mail_keeps}
 
 pub mail_is_sound : MailIsSound
 mail_is_sound v fs was = mail_holds IsSoundView fs v (λ p bytes u sent sound. steps_stay_sound (frame p bytes) u tt sound) was

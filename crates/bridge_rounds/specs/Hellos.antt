@@ -1,5 +1,5 @@
 -- What the hello of a round makes of the adjacency at a port (RFC 5303, 3.2).
-use Rattle.std.specs.Prelude.{◌≡◌, ◌≢◌, ℕ, List, count_by, false, true, Option, Some, Contains}
+use Rattle.std.specs.Prelude.{◌≡◌, ◌≢◌, ℕ, List, count_by, false, true, Some, Contains}
 use Rattle.spb_types.specs.declared.address.SystemId.{SystemId}
 use Rattle.isis_pdu.specs.Pdu.{HelloValue}
 use Rattle.spb_tlvs.specs.declared.three_way.ThreeWay.{ThreeWay}

@@ -20,7 +20,7 @@ use Rattle.bridge_api.specs.Laws.{IsSoundView, IsSent}
 
 -- ---- adjacencies
 
--- at each port the holding count falls, and the neighbour is lost where it was 1 (ISO/IEC 10589, 8.2.4.2)
+-- at each port the holding count falls, and the neighbour is lost where it was 1 (ISO/IEC 10589, 8.2.5)
 abbrev pub SecondsLower : Type 0
 SecondsLower = (v : BridgeView) (p : ℕ) → adjacency_at (step second v) p ≡ option_map after_second (adjacency_at v p)
 

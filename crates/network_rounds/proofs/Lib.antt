@@ -5,6 +5,7 @@ pub mod Lanes
 pub mod Near
 pub mod Chain
 pub mod Along
+pub mod Flagged
 pub mod BridgeLaws
 pub mod Start
 pub mod Coming
@@ -16,3 +17,5 @@ pub mod FactsPush
 pub mod FactsCome
 pub mod Sequence
 pub mod Agreed
+pub mod Ends
+pub mod Lasting

@@ -3,5 +3,6 @@ pub mod Near
 pub mod Along
 pub mod Premises
 pub mod Settling
+pub mod Flags
 pub mod Steady
 pub mod Agreement
