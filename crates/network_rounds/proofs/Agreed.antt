@@ -1,6 +1,6 @@
 -- Bridges that are joined come to agree: the rounds from the end of round 4 on are steady ones, in which versions do what
 -- agreement follows from by their order alone.
-use Rattle.std.proofs.Common.{◌≡◌, ◌⊎◌, inl, inr, ℕ, zero, suc, ◌+◌, ◌-◌, ◌*◌, ◌<◌, ◌≤◌, List, refl, sym, ap, ◌∙◌, subst, Option, Some, None, slice_get, arith}
+use Rattle.std.proofs.Common.{◌≡◌, ◌⊎◌, inl, inr, ℕ, zero, suc, ◌+◌, ◌-◌, ◌*◌, ◌<◌, ◌≤◌, List, sym, ap, ◌∙◌, subst, Option, Some, slice_get, arith}
 use Rattle.std.specs.Option.{option_map_or}
 use Rattle.spb_types.specs.declared.address.BridgeId.{BridgeId}
 use Rattle.spb_types.specs.declared.address.LspId.{LspId}
@@ -14,17 +14,15 @@ use Rattle.bridge_api.specs.View.{BridgeView}
 use Rattle.spb_world.specs.declared.declaration.DeclaredLink.{DeclaredLink}
 use Rattle.spb_world.specs.World.{World, things_of}
 use Rattle.network_model.specs.State.{State, links_of}
-use Rattle.network_model.specs.Sound.{IsSoundState}
-use Rattle.network_model.specs.Counted.{IsCountedBy}
 use Rattle.network_model.specs.Truth.{AreLinked, AreJoined, IsWalk}
 use Rattle.network_model.proofs.CountedMoves.{systems_apart, declared_at}
 use Rattle.network_model.proofs.SoundEvents.{core_of}
 use Rattle.network_rounds.specs.Agreement.{IsReached, OriginsAreAhead, BridgesAgree}
-use Rattle.network_rounds.specs.Rounds.{IsRoundOf, IsHeardRound, AreRounds}
+use Rattle.network_rounds.specs.Rounds.{IsRoundOf, AreRounds}
 use Rattle.network_rounds.specs.Steady.{IsReadyFor, ids_of, IsSteadyState, LinksComeUp, RoundsAreSteady}
 use Rattle.network_rounds.proofs.Along.{rounds_stay_sound, rounds_stay_counted}
 use Rattle.network_rounds.proofs.Chain.{IsSteady, ahead, agree}
-use Rattle.network_rounds.proofs.Facts.{held_at, IsOriginAt, IsHeldBeside, HasFacts, IsSteadyStep}
+use Rattle.network_rounds.proofs.Facts.{held_at, IsOriginAt, HasFacts, IsSteadyStep}
 use Rattle.network_rounds.proofs.FactsRise.{rises}
 use Rattle.network_rounds.proofs.FactsPush.{pushes}
 use Rattle.network_rounds.proofs.FactsCome.{comes}
@@ -146,7 +144,7 @@ module _ (come_up : LinksComeUp) (are_steady : RoundsAreSteady) (d m n : ℕ) (s
   agree_last v w id low join =
       sym (held_last join.from v id join.here)
       ∙ (agree IsAtMost (links_of s) (λ i x. IsOriginAt s.world i x) n d (λ r i x. held_at (at_round r) i x) rounds_steady reached.near n join.from join.to id join.walk low (omega arith)
-        (walk_last join.from join.to join.walk join.leads)
+      (walk_last join.from join.to join.walk join.leads)
       ∙ held_last join.to w id join.there)
 
 -- ---- whatever the number of rounds

@@ -1,9 +1,8 @@
 -- What the versions that bridges hold do in a steady round: six facts, each proved in a file of its own; and what they
 -- all rest on.
-use Rattle.std.proofs.Common.{◌≡◌, ◌⊎◌, inl, inr, ℕ, ◌≤◌, Bool, true, false, List, [], ◌∷◌, refl, sym, ap, ◌∙◌, subst, Option, Some, None, slice_get, arith}
+use Rattle.std.proofs.Common.{◌≡◌, ◌⊎◌, inl, inr, ℕ, Bool, true, false, List, [], refl, sym, ap, ◌∙◌, subst, Option, Some, None, slice_get, arith}
 use Rattle.std.specs.Prelude.{if◌then◌else◌}
 use Rattle.std.specs.Option.{option_map, option_map_or}
-use Rattle.std.specs.FinMap.{get}
 use Rattle.std.proofs.lemmas.Option.{same_Some}
 use Rattle.spb_types.specs.declared.address.LspId.{LspId}
 use Rattle.spb_types.specs.declared.link.Dir.{Dir}
@@ -38,10 +37,9 @@ use Rattle.network_model.specs.Counted.{IsCountedBy}
 use Rattle.network_model.specs.Truth.{AreLinked}
 use Rattle.network_model.proofs.BridgeLaws.{sent_is_sound}
 use Rattle.network_model.proofs.FitsLemmas.{far_is_port}
-use Rattle.network_model.proofs.Linked.{far_view}
 use Rattle.network_model.proofs.SoundLane.{named}
 use Rattle.network_rounds.specs.Rounds.{IsHeardRound}
-use Rattle.network_rounds.specs.Steady.{inbox_of, IsKeptUp, IsSteadyState, IsSteadyFor, IsSteadyRound}
+use Rattle.network_rounds.specs.Steady.{inbox_of, IsKeptUp, IsSteadyState, IsSteadyRound}
 use Rattle.network_rounds.proofs.Coming.{ComesOver, each_comes, of_each, in_ticked}
 use Rattle.network_rounds.proofs.Lanes.{lane_ticked}
 use Rattle.network_rounds.proofs.Passing.{near_view}

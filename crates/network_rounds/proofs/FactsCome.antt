@@ -7,7 +7,7 @@ use Rattle.spb_types.specs.declared.address.SystemId.{SystemId}
 use Rattle.spb_types.specs.declared.address.LspId.{LspId}
 use Rattle.spb_types.specs.Address.{same_system}
 use Rattle.lsdb.specs.declared.version.Version.{Version}
-use Rattle.lsdb.specs.declared.version.Version.TheVariants.{Absent, Live}
+use Rattle.lsdb.specs.declared.version.Version.TheVariants.{Live}
 use Rattle.lsdb.specs.Entry.{Entry}
 use Rattle.lsdb.specs.Database.{version_in, version_at}
 use Rattle.lsdb.specs.Laws.{AreTwoLives}
@@ -19,8 +19,7 @@ use Rattle.bridge_api.proofs.Sound.{steps_stay_sound}
 use Rattle.bridge_rounds.specs.Inbox.{Inbox}
 use Rattle.bridge_rounds.specs.Versions.{IsHeldOrClaimed}
 use Rattle.bridge_rounds.proofs.ComeFrom.{versions_come_from}
-use Rattle.spb_world.specs.Links.{near_end}
-use Rattle.network_model.specs.State.{State, links_of}
+use Rattle.network_model.specs.State.{State}
 use Rattle.network_model.specs.Counted.{IsCopy, is_held, IsOwnOf}
 use Rattle.network_model.proofs.BridgeLaws.{steps_keep_bridge}
 use Rattle.network_model.proofs.CountedMoves.{declared_at, shown_at}
@@ -81,7 +80,7 @@ module _ (ids : List LspId) (m allowance : ℕ) (s t : State) (one : IsSteadySte
       let now = held_after ids m allowance s t one i v id at in
       let same : (step second v).id ≡ v.id = (steps_keep_bridge second v).id in
       elim (versions_come_from (step second v) fs id (steps_stay_sound second v tt (sound_at ids m allowance s t one i v at)) (λ is. apart (is ∙ ap (λ (b : BridgeId). b.system) same))
-          (λ a b first other two. none_meet id a b (somewhere i v id a at first) (somewhere i v id b at other) two)) [
+      (λ a b first other two. none_meet id a b (somewhere i v id a at first) (somewhere i v id b at other) two)) [
         | inl held ↦ inl (now ∙ (held ∙ held_second ids m allowance s t one i v id at))
         | inr claimed ↦ inr (subst (IsHeldBeside s i id) (sym now) (claim_is_held ids m allowance s t one i v id _ at claimed))
       ]
@@ -101,6 +100,7 @@ module _ (ids : List LspId) (m allowance : ℕ) (s t : State) (one : IsSteadySte
             | inl stays ↦ inl stays
             | inr came ↦ inr (inl came)
           ]
+
       by : (o : Option BridgeView) → slice_get s.views i ≡ o → (held_at t i id ≡ held_at s i id) ⊎ (IsHeldBeside s i id (held_at t i id) ⊎ IsOriginAt s.world i id)
       by None at = inl (none_after ids m allowance s t one i id at ∙ sym (none_before ids m allowance s t one i id at))
       by (Some v) at = by_system v at (same_system id.system v.id.system) refl

@@ -1,6 +1,6 @@
 -- What is held at one end of a link that is up is at most what is held at the other end after a steady round: it is held
 -- there already, or its LSP is sent, comes and is taken.
-use Rattle.std.proofs.Common.{◌≡◌, inl, inr, ℕ, true, true≢false, List, refl, sym, ap, ◌∙◌, subst, Option, Some, None, slice_get, arith}
+use Rattle.std.proofs.Common.{◌≡◌, inl, inr, ℕ, true, true≢false, List, refl, sym, ap, ◌∙◌, subst, Option, Some, None, slice_get}
 use Rattle.std.specs.Prelude.{Contains}
 use Rattle.std.specs.Option.{option_map}
 use Rattle.std.specs.FinMap.{get}
@@ -8,7 +8,6 @@ use Rattle.spb_types.specs.declared.address.LspId.{LspId}
 use Rattle.spb_types.specs.declared.link.Dir.{Dir}
 use Rattle.spb_types.specs.Ports.{has}
 use Rattle.spb_types.proofs.PortLemmas.{has-no_ports}
-use Rattle.isis_pdu.specs.Pdu.{LspValue}
 use Rattle.link_model.specs.Lane.{Frame}
 use Rattle.lsdb.specs.declared.version.Version.{Version}
 use Rattle.lsdb.specs.Version.{IsAtMost}
@@ -21,8 +20,6 @@ use Rattle.flooding.specs.Hearing.{claim_of}
 use Rattle.flooding.specs.Sending.{lsp_in}
 use Rattle.flooding.proofs.SendableEntries.{sent_is_held}
 use Rattle.bridge_api.specs.View.{BridgeView}
-use Rattle.bridge_api.specs.Parsing.{parsed}
-use Rattle.bridge_api.specs.Parsing as parsing
 use Rattle.bridge_api.specs.Ticking.{readied, lsp_frame}
 use Rattle.bridge_api.specs.Step.{second, step, sent, frames_at}
 use Rattle.bridge_api.specs.Laws.{IsSent}
@@ -90,7 +87,7 @@ module _ (ids : List LspId) (m allowance : ℕ) (s t : State) (one : IsSteadySte
         (elim ((one.state.sound.agree k dir l u w there at_u at_w).ready id up) [
           | inl set ↦ subst (IsAtMost (version_at u.database id)) (sym (held_after ids m allowance s t one (far_end dir l).bridge w id at_w)) (flagged id (get u.database id) refl set)
           | inr low ↦ through (version_at u.database id) (version_at w.database id) (held_at t (far_end dir l).bridge id) low
-            (subst (λ (a : Version). IsAtMost a (held_at t (far_end dir l).bridge id)) before_w (rises ids m allowance s t one (far_end dir l).bridge id))
+              (subst (λ (a : Version). IsAtMost a (held_at t (far_end dir l).bridge id)) before_w (rises ids m allowance s t one (far_end dir l).bridge id))
         ])
 
   pub pushes : (i j : ℕ) (id : LspId) → AreLinked (links_of s) i j → IsAtMost (held_at s i id) (held_at t j id)

@@ -1,5 +1,5 @@
 -- The states between so many rounds, one after another.
-use Rattle.std.proofs.Common.{◌≡◌, ℕ, zero, suc, ◌<◌, ◌≤◌, refl, ◌∙◌, arith}
+use Rattle.std.proofs.Common.{◌≡◌, ℕ, zero, suc, ◌<◌, ◌≤◌, refl, arith}
 use Rattle.network_model.specs.State.{State}
 use Rattle.network_rounds.specs.Rounds.{IsRoundOf, AreRounds}
 use Rattle.network_rounds.proofs.Along.{AreSame, round_same}
