@@ -42,7 +42,7 @@ names_none me p None named = refl
 names_none me p (Some n) named = ap not (ap (λ (x : End). same_end x (me, p)) (named n refl) ∙ same_end_refl (me, p))
 
 module _ (me : SystemId) (p : ℕ) (h : HelloValue) (way : ThreeWay) (a : Adjacency) (towards : IsHelloTowards me p h way a) where
-  heeded : is_discarded me p h way ≡ false
+  pub heeded : is_discarded me p h way ≡ false
   heeded =
       ap (λ (n : ℕ). not (has_level_one n) || same_system h.source me || names_another (me, p) way.neighbour) towards.level
       ∙ (ap (λ (b : Bool). b || names_another (me, p) way.neighbour) (other_system h.source me towards.apart)

@@ -146,11 +146,10 @@ hellos_at p (s ∷ fs) =
 -- ---- what the end at the far side makes of it
 
 -- the state that the hello of a port says
-pub spoken : (u : BridgeView) (q : ℕ) (b : Adjacency) (h : HelloValue) (way : ThreeWay) → adjacency_at u q ≡ Some b → IsHelloOf u q h way → state_numbered way.state ≡ b.state
+pub spoken : (u : BridgeView) (q : ℕ) (b : Adjacency) (h : HelloValue) (way : ThreeWay) → adjacency_at u q ≡ Some b → IsHelloOf u q h way → way.state ≡ state_number b.state
 spoken u q b h way at own =
     let has = port_of u q b at in
-    ap (λ (way : ThreeWay). state_numbered way.state) (own.spoken has.port has.there)
-    ∙ (numbered has.port.adjacency.state ∙ ap (λ (a : Adjacency). a.state) has.is)
+    ap (λ (way : ThreeWay). way.state) (own.spoken has.port has.there) ∙ ap (λ (a : Adjacency). state_number a.state) has.is
 
 -- an end in a state, with a neighbour that is kept for three seconds unless it is Down
 pub record EndIn (v : BridgeView) (p : ℕ) (x : AdjState) : Type 0 where
@@ -227,7 +226,7 @@ module _ (s : State) (sound : IsSoundState s) (k : ℕ) (dir : Dir) (l : Declare
         let to = hello_to heard.hello heard.way heard.own in
         let kept = towards_kept x.id.system p heard.hello heard.way a (towards heard.hello heard.way a to (λ n is. keeps_near n (neighbour_is x p a at_a ∙ is))) in
         let c : Adjacency = after_hello x.id.system p heard.hello heard.way a in
-        let state : c.state ≡ next_state a.state b.state = kept.0 ∙ ap (next_state a.state) (spoken u q b heard.hello heard.way at_b heard.own) in
+        let state : c.state ≡ next_state a.state b.state = kept.0 ∙ ap (next_state a.state) (ap state_numbered (spoken u q b heard.hello heard.way at_b heard.own) ∙ numbered b.state) in
         record {
           adjacency = c;
           there = one_hello_moves x fs p heard.bytes heard.hello heard.way a at_a

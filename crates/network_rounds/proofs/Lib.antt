@@ -19,3 +19,5 @@ pub mod Sequence
 pub mod Agreed
 pub mod Ends
 pub mod Lasting
+pub mod Undue
+pub mod SteadyRounds
