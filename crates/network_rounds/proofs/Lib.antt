@@ -10,6 +10,13 @@ pub mod BridgeLaws
 pub mod Start
 pub mod Coming
 pub mod Passing
+pub mod Facts
+pub mod FactsRise
+pub mod FactsStand
+pub mod FactsPush
+pub mod FactsCome
+pub mod Sequence
+pub mod Agreed
 pub mod Ends
 pub mod Lasting
 pub mod Undue

@@ -5,3 +5,4 @@ pub mod Premises
 pub mod Settling
 pub mod Flags
 pub mod Steady
+pub mod Agreement
