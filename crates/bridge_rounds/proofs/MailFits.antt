@@ -54,7 +54,7 @@ held_among ids v id None within is some = absurd (true≢false (sym some))
 held_among ids v id (Some e) within is some = within id e is
 
 -- so there are no more of them than of the ids within which they are
-few_held : (ids : List LspId) (v : BridgeView) → HoldsWithin ids v → len v.database ≤ length ids
+pub few_held : (ids : List LspId) (v : BridgeView) → HoldsWithin ids v → len v.database ≤ length ids
 few_held ids v within =
     let es = entries v.database in
     let sorted = sorted_keys es (true_from_T (is_sorted id_cmp es) (entries_sorted v.database)) in

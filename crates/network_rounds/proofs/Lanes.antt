@@ -12,7 +12,7 @@ use Rattle.spb_world.specs.Links.{near_end}
 use Rattle.spb_world.specs.World.{World, things_of}
 use Rattle.spb_world.proofs.ListLemmas.{length-push, length-things}
 use Rattle.network_model.specs.DeliveryLaws.{pushed_all}
-use Rattle.network_model.specs.Events.{ticked, ticked_from}
+use Rattle.network_model.specs.Events.{ticked, ticked_from, all_ticked}
 use Rattle.network_model.specs.Sound.{IsSoundState}
 use Rattle.network_model.specs.State.{State, links_of}
 use Rattle.network_model.proofs.CountedMoves.{is_within}
@@ -82,3 +82,10 @@ lanes_hold_what_is_sent s k dir l v sound none there live at room =
     ∙ (ap (λ (lane : List Frame). pushed_all lane (if l.live then frames else [])) (none k dir)
     ∙ (ap (λ (b : Bool). pushed_all [] (if b then frames else [])) live
     ∙ pushed_fits [] frames (omega (arith, room))))
+
+-- what a lane holds after all ticks: what it held, and then what the bridge at its near end sent
+pub lane_ticked : (s : State) (k : ℕ) (dir : Dir) (l : DeclaredLink) (v : BridgeView) → IsSoundState s → slice_get (links_of s) k ≡ Some l → slice_get s.views (near_end dir l).bridge ≡ Some v
+    → lane_of (all_ticked s).lanes k dir ≡ pushed_all (lane_of s.lanes k dir) (if l.live then frames_at (near_end dir l).port (sent second v) else [])
+lane_ticked s k dir l v sound there at =
+    let within : (near_end dir l).bridge < length s.views = is_within s.views (near_end dir l).bridge v at in
+    ticks_over k dir l v (length s.views) 0 s sound there at (omega arith) (omega (arith, within))

@@ -5,3 +5,7 @@ pub mod Lanes
 pub mod Near
 pub mod Chain
 pub mod Along
+pub mod BridgeLaws
+pub mod Start
+pub mod Coming
+pub mod Passing

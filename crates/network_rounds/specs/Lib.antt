@@ -1,5 +1,6 @@
 pub mod Rounds
-pub mod Premises
-pub mod Settling
 pub mod Near
 pub mod Along
+pub mod Premises
+pub mod Settling
+pub mod Steady

@@ -4,5 +4,7 @@
 #![tactic(auto)]
 
 pub use laws::{bridges_are_near, rounds_are_heard, rounds_keep_networks_sound};
+pub use steady::nothing_is_lost;
 
 mod laws;
+mod steady;

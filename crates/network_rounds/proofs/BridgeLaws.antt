@@ -1,0 +1,24 @@
+-- The laws of a second and of an inbox, on which what holds of a network after each round rests.
+use Rattle.bridge_api.proofs.Time as time
+use Rattle.bridge_rounds.proofs.BroughtIds as brought
+use Rattle.bridge_rounds.proofs.MailFits as fits
+use Rattle.bridge_rounds.proofs.SecondsSent as sent
+use Rattle.bridge_rounds.proofs.SentAtPorts as many
+use Rattle.bridge_rounds.specs.Hearing.{RoundsHoldIds}
+use Rattle.bridge_rounds.specs.Mail.{MailHoldsWithin}
+use Rattle.bridge_rounds.specs.Seconds.{SecondsLower, SecondsCarryNone, SecondsSendAtPort}
+
+pub seconds_carry_none : SecondsCarryNone
+seconds_carry_none = sent.seconds_carry_none
+
+pub seconds_send_at_port : SecondsSendAtPort
+seconds_send_at_port = many.seconds_send_at_port
+
+pub rounds_hold_ids : RoundsHoldIds
+rounds_hold_ids = brought.rounds_hold_ids
+
+pub mail_holds_within : MailHoldsWithin
+mail_holds_within = fits.mail_holds_within
+
+pub seconds_lower : SecondsLower
+seconds_lower = time.adjacency_second
