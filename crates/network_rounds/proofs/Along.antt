@@ -1,14 +1,16 @@
 -- Rounds, one after another, keep what is sound and what is counted; what a state has counted plays no part in it.
 use Rattle.std.proofs.Common.{◌≡◌, ℕ, zero, suc, ◌+◌, ◌*◌, ◌<◌, refl, sym, ◌∙◌, subst, arith}
+use Rattle.scenario.specs.declared.command.Command.TheVariants as command
 use Rattle.flooding.specs.Own.{last_number}
 use Rattle.network_model.specs.State.{State}
-use Rattle.network_model.specs.Events.{one_round}
+use Rattle.network_model.specs.Events.{one_round, rounds}
+use Rattle.network_model.specs.Play.{with_rounds, next_state}
 use Rattle.network_model.specs.Sound.{IsSoundState}
 use Rattle.network_model.specs.Counted.{IsCountedBy}
 use Rattle.network_model.proofs.CountedRounds.{counted_more, Counted-one_round}
 use Rattle.network_model.proofs.SoundEvents.{Sound-one_round}
 use Rattle.network_rounds.specs.Rounds.{IsRoundOf, AreRounds}
-use Rattle.network_rounds.specs.Along.{RoundsAreRounds, RoundsStaySound, RoundsStayCounted, RoundsHaveLast}
+use Rattle.network_rounds.specs.Along.{RoundsAreRounds, CommandsAreRounds, SingleCommandsAreRounds, RoundsStaySound, RoundsStayCounted, RoundsSplit, RoundsHaveLast}
 
 -- two states that have the same declared, the same bridges and the same frames on their way
 pub record AreSame (s t : State) : Type 0 where
@@ -89,8 +91,30 @@ rounds_stay_counted (suc k) n s t are sound counted low =
     counted_more (n + 128 + 128 * k) (n + 128 * suc k) t (omega arith)
     (rounds_stay_counted k (n + 128) are.0 t are.2 (round_sound s are.0 are.1 sound) (round_counted n s are.0 are.1 sound counted (omega (arith, low))) (omega (arith, low)))
 
-pub rounds_have_last : RoundsHaveLast
-rounds_have_last zero s t are = (s, (refl, refl, refl), are)
-rounds_have_last (suc k) s t are =
-    let more = rounds_have_last k are.0 t are.2 in
+-- some of them, and then the others
+split_at : (n j k : ℕ) (s t : State) → n ≡ j + k → AreRounds n s t → (u : State) × AreRounds j s u × AreRounds k u t
+split_at n zero k s t e are = (s, (refl, refl, refl), subst (λ (m : ℕ). AreRounds m s t) (omega (arith, e)) are)
+split_at zero (suc j) k s t e are = absurd (omega (arith, e))
+split_at (suc n) (suc j) k s t e are =
+    let more = split_at n j k are.0 t (omega (arith, e)) are.2 in
     (more.0, (are.0, are.1, more.1), more.2)
+
+pub rounds_split : RoundsSplit
+rounds_split j k s t are = split_at (j + k) j k s t refl are
+
+pub rounds_have_last : RoundsHaveLast
+rounds_have_last k s t are = split_at (suc k) k 1 s t (omega arith) are
+
+-- ---- commands
+
+pub commands_are_rounds : CommandsAreRounds
+unfolding next_state with_rounds
+commands_are_rounds k s = rounds_same k s (rounds k s) (next_state s (command.Round k)) (rounds_are_rounds k s) (record { world = refl; views = refl; lanes = refl })
+
+pub command_is_round : (s : State) → IsRoundOf s (next_state s (command.Round 1))
+unfolding next_state with_rounds
+command_is_round s = record { world = refl; views = refl; lanes = refl }
+
+pub single_commands_are_rounds : SingleCommandsAreRounds
+single_commands_are_rounds zero s = (refl, refl, refl)
+single_commands_are_rounds (suc k) s = (next_state s (command.Round 1), command_is_round s, single_commands_are_rounds k (next_state s (command.Round 1)))

@@ -10,25 +10,24 @@ use Rattle.spb_types.specs.Places.{changed_at}
 use Rattle.spb_types.specs.declared.link.Dir.{Dir}
 use Rattle.spb_types.specs.declared.link.Dir.TheVariants.{Ab, Ba}
 use Rattle.bridge_api.specs.View.{BridgeView}
-use Rattle.bridge_api.specs.Laws.{IsSoundView}
 use Rattle.bridge_api.specs.Parsing.{parsed, is_carrying}
 use Rattle.bridge_api.specs.Step.{second, frame, step}
+use Rattle.bridge_laws.proofs.Isolation.{second_carries_none}
 use Rattle.bridge_rounds.specs.Inbox.{Inbox, heard_all}
+use Rattle.bridge_rounds.proofs.FramesHeard.{control_is_silent}
 use Rattle.spb_world.specs.declared.declaration.DeclaredLink.{DeclaredLink}
 use Rattle.spb_world.specs.Links.{far_end}
 use Rattle.spb_world.specs.World.{World, things_of}
-use Rattle.spb_world.proofs.BoxLemmas.{All-get}
 use Rattle.spb_world.proofs.ListLemmas.{length-things}
 use Rattle.network_model.specs.State.{State, links_of, lane_at, with_frames}
 use Rattle.network_model.specs.Events.{heard_over, delivered_front, delivered, ticked, ticked_from, delivered_times, lane_served, link_served, served_from, all_ticked, all_served, one_round}
-use Rattle.network_model.specs.Sound.{IsSoundState}
 use Rattle.network_model.proofs.ApartLanes.{stepped_each}
 use Rattle.network_model.proofs.FitsLemmas.{length-changed, alike_ticked_from}
 use Rattle.network_model.proofs.SentLanes.{changed_beside}
-use Rattle.network_model.proofs.SoundEvents.{stepped_world, stepped_views, Sound-ticked}
+use Rattle.network_model.proofs.SoundEvents.{stepped_world, stepped_views}
 use Rattle.network_model.proofs.SoundSteps.{lane_changed}
 use Rattle.network_rounds.specs.Rounds.{coming, coming_over, inbox_from, inbox, HasNoCustomers, RoundsAreHeard}
-use Rattle.network_rounds.proofs.Silent.{frame_sends_none, frame_leaves_none, second_carries_none, silent_step}
+use Rattle.network_rounds.proofs.Silent.{silent_step}
 
 -- ---- lists by place
 
@@ -164,7 +163,7 @@ one_delivered s k dir l f behind at there clean =
     let p : ℕ = (far_end dir l).port in
     ap (λ (lane : List Frame). delivered_front s k dir (slice_get lane 0)) at
     ∙ (ap (λ (o : Option DeclaredLink). heard_over (with_frames rest s k dir) dir f o) there
-    ∙ silent_step (frame p f) (with_frames rest s k dir) (far_end dir l).bridge (λ v. frame_sends_none p f v clean) (λ v. frame_leaves_none p f v clean))
+    ∙ silent_step (frame p f) (with_frames rest s k dir) (far_end dir l).bridge (λ v. (control_is_silent v p f clean).0) (λ v. (control_is_silent v p f clean).1))
 
 -- as many as a lane holds
 times_delivered : (fs : List Frame) (s : State) (k : ℕ) (dir : Dir) (l : DeclaredLink) → lane_at s k dir ≡ fs → slice_get (links_of s) k ≡ Some l → CarryNone fs
@@ -343,11 +342,11 @@ pub all_tick_world : (s : State) → (all_ticked s).world ≡ s.world
 all_tick_world s = let all : TicksFrom s (all_ticked s) (length s.views) 0 = ticks_from (length s.views) 0 s in all.world
 
 -- and what they sent carries none
-clean_ticks : (n i : ℕ) (s : State) → IsSoundState s → HasNoCustomers s.lanes → HasNoCustomers (ticked_from n i s).lanes
-clean_ticks zero i s sound clean = clean
-clean_ticks (suc n) i s sound clean =
-    clean_ticks n (i + 1) (ticked s i) (Sound-ticked s i sound)
-    (stepped_each (λ bytes. is_carrying (parsed bytes) ≡ false) second s i clean (λ v at. second_carries_none v (All-get IsSoundView s.views i v sound.views at)))
+clean_ticks : (n i : ℕ) (s : State) → HasNoCustomers s.lanes → HasNoCustomers (ticked_from n i s).lanes
+clean_ticks zero i s clean = clean
+clean_ticks (suc n) i s clean =
+    clean_ticks n (i + 1) (ticked s i)
+    (stepped_each (λ bytes. is_carrying (parsed bytes) ≡ false) second s i clean (λ v at. second_carries_none v))
 
 -- ---- a round
 
@@ -358,7 +357,7 @@ rounds_are_heard s sound clean =
     let world : t.world ≡ s.world = all_tick_world s in
     let many : length t.lanes ≡ length s.lanes = (alike_ticked_from (length s.views) 0 s).lanes in
     let fits : length (links_of s) ≡ length s.lanes = length-things s.world.links ∙ sym sound.fits.lanes in
-    let served : ServesAll t (all_served t) (length t.lanes) 0 = all_serve (length t.lanes) 0 t (omega arith) (ap (λ (w : World). length (things_of w.links)) world ∙ (fits ∙ sym many)) (clean_ticks (length s.views) 0 s sound clean) in
+    let served : ServesAll t (all_served t) (length t.lanes) 0 = all_serve (length t.lanes) 0 t (omega arith) (ap (λ (w : World). length (things_of w.links)) world ∙ (fits ∙ sym many)) (clean_ticks (length s.views) 0 s clean) in
     record {
       world = served.world ∙ world;
       lanes = λ k dir. served.empty k dir (omega arith);

@@ -41,8 +41,8 @@ abbrev pub HasNoCustomers : List LinkLanes → Type 0
 HasNoCustomers lanes = (k : ℕ) (dir : Dir)
     → AllByRecursion (λ bytes. is_carrying (parsed bytes) ≡ false) (lane_of lanes k dir)
 
--- after a round of such a network all lanes are empty, and each bridge is what a second, and then what comes to it, make
--- of it
+-- after a round of such a network all lanes are empty, and each bridge is what a second, and then what comes to it,
+-- make of it
 pub record IsHeardRound (s t : State) : Type 0 where
   pub world : t.world ≡ s.world
   pub lanes : (k : ℕ) (dir : Dir) → lane_at t k dir ≡ []
