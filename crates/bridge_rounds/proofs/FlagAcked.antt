@@ -1,8 +1,8 @@
 -- An LSP that came at a port and is held in the end is to be acknowledged there.
-use Rattle.std.proofs.Common.{◌≡◌, ◌≢◌, ◌⊎◌, inl, inr, ◌≤◌, ◌<◌, ℕ, zero, suc, Bool, true, false, List, [], ◌∷◌, length, refl, sym, ap, ◌∙◌, subst, Option, Some, None, arith}
-use Rattle.std.specs.Prelude.{◌&&◌, ◌==◌, Contains, ⊤, if◌then◌else◌}
+use Rattle.std.proofs.Common.{◌≡◌, ◌≢◌, inl, inr, ℕ, Bool, true, false, List, [], ◌∷◌, refl, sym, ap, ◌∙◌, subst, Option, Some}
+use Rattle.std.specs.Prelude.{⊤, if◌then◌else◌}
 use Rattle.std.specs.FinMap.{get}
-use Rattle.std.proofs.lemmas.Bool.{true≢false, and_parts, eqb-true}
+use Rattle.std.proofs.lemmas.Bool.{true≢false, and_parts}
 use Rattle.std.proofs.lemmas.Slice.Eq.{bytes_eq-Decides}
 use Rattle.spb_types.specs.declared.address.SystemId.{SystemId}
 use Rattle.spb_types.specs.declared.address.LspId.{LspId}
@@ -32,17 +32,19 @@ use Rattle.bridge_api.specs.Own.{holding_of, originated_if_changed}
 use Rattle.bridge_api.specs.Parsing.{Parsed, parsed}
 use Rattle.bridge_api.specs.Parsing as parsing
 use Rattle.bridge_api.specs.Hearing.{after_drop, heard_lsp, heard_as}
-use Rattle.bridge_api.specs.Step.{frame, step, frames_at}
-use Rattle.bridge_api.specs.Laws.{IsSoundView, claims_said}
+use Rattle.bridge_api.specs.Step.{frame, step}
+use Rattle.bridge_api.specs.Laws.{IsSoundView, IsSent, claims_said}
 use Rattle.spb_types.specs.declared.drop_reason.DropReason.TheVariants as drop
 use Rattle.bridge_api.proofs.Certified.{steps_keep_bridge}
 use Rattle.bridge_rounds.specs.Inbox.{Inbox, heard_all}
 use Rattle.bridge_rounds.specs.Mail.{HoldsOn, HasRoom}
-use Rattle.bridge_rounds.specs.FlagLaws.{HasSsn, ClaimsOnly, HearsAt, ClaimsAgree, LspIsAcked}
-use Rattle.bridge_rounds.proofs.FlagClaims.{IsAckedAt, acked_in, unanswered}
+use Rattle.bridge_rounds.specs.FlagLaws.{HasSsn, ClaimsOnly, HearsAt, LspIsAcked}
+use Rattle.bridge_rounds.proofs.FlagClaims.{acked_in, unanswered}
 use Rattle.bridge_rounds.proofs.FlagSteps.{in_up, IsUpPort, up_port, heard_there, after_lsp, when}
+use Rattle.bridge_rounds.proofs.Folds.{at_port}
+use Rattle.bridge_rounds.proofs.LspHeld.{mail_rises}
 use Rattle.bridge_rounds.proofs.MailFits.{mail_fits}
-use Rattle.bridge_rounds.proofs.FlagFolds.{up_now, next_hears, first_rises, all_rise, first_stays, later_only, first_only, stays_acked}
+use Rattle.bridge_rounds.proofs.FlagFolds.{up_now, next_hears, first_rises, first_stays, later_only, first_only, stays_acked}
 
 -- ---- one LSP
 
@@ -113,11 +115,6 @@ abbrev pub HasRoomOn : LspId → Inbox → BridgeView → Type 0
 HasRoomOn x [] v = ⊤
 HasRoomOn x (f ∷ fs) v = (has_room v.id.system v.database x ≡ true) × HasRoomOn x fs (step (frame f.0 f.1) v)
 
-first_among : (b : Bool) (f bytes : List ℕ) (frames : List (List ℕ)) → Contains (if b then f ∷ frames else frames) bytes → ((b ≡ true) × (f ≡ bytes)) ⊎ Contains frames bytes
-first_among false f bytes frames there = inr there
-first_among true f bytes frames (zero, low, is) = inl (refl, is)
-first_among true f bytes frames (suc k, low, is) = inr (k, omega (arith, low), is)
-
 module _ (p : ℕ) (n : End) (l : LspValue) (a : Version) (some : a ≢ Absent) where
   -- it comes first
   acked_first : (v : BridgeView) (bytes : List ℕ) (fs : Inbox) → HearsAt p n ((p, bytes) ∷ fs) v → HasRoomOn l.id ((p, bytes) ∷ fs) v → parsed bytes ≡ parsing.lsp l → ClaimsOnly p l.id a ((p, bytes) ∷ fs)
@@ -126,18 +123,18 @@ module _ (p : ℕ) (n : End) (l : LspValue) (a : Version) (some : a ≢ Absent) 
       let w : BridgeView = step (frame p bytes) v in
       let later : HearsAt p n fs w = next_hears p n (p, bytes) fs v hears in
       let claim : (claim_of l).version ≡ a = first_only p l.id a (p, bytes) fs only refl (claim_of l).version (subst (λ (j : Parsed). IsClaimed (claims_said j) l.id (claim_of l).version) (sym is) (inl (refl, refl))) in
-      let below : IsAtMost (version_at w.database l.id) (claim_of l).version = subst (IsAtMost (version_at w.database l.id)) (last ∙ sym claim) (all_rise fs w l.id later.sound) in
+      let below : IsAtMost (version_at w.database l.id) (claim_of l).version = subst (IsAtMost (version_at w.database l.id)) (last ∙ sym claim) (mail_rises w fs l.id later.sound) in
       let brought : IsBrought p l w = lsp_brought v p n bytes l fs hears is room.0 below (λ none. some (sym claim ∙ none)) (λ own. own_same own ∙ sym claim) in
       let now : version_at w.database l.id ≡ a = brought.version ∙ claim in
       stays_acked p n w fs l.id later (record { stays = last ∙ sym now; claims = λ b claimed. later_only p l.id a (p, bytes) fs only b claimed ∙ sym now }) brought.acked
 
-  pub all_acked : (v : BridgeView) (bytes : List ℕ) (fs : Inbox) → HearsAt p n fs v → HasRoomOn l.id fs v → Contains (frames_at p fs) bytes → parsed bytes ≡ parsing.lsp l → ClaimsOnly p l.id a fs
+  pub all_acked : (v : BridgeView) (bytes : List ℕ) (fs : Inbox) → HearsAt p n fs v → HasRoomOn l.id fs v → IsSent fs p bytes → parsed bytes ≡ parsing.lsp l → ClaimsOnly p l.id a fs
       → version_at (heard_all fs v).database l.id ≡ a → (l.id.system ≡ v.id.system → version_at v.database l.id ≡ a) → HasSsn (heard_all fs v) l.id p
-  all_acked v bytes [] hears room (k, low, at) is only last own_same = absurd (omega (arith, low))
+  all_acked v bytes [] hears room none is only last own_same = absurd none
   all_acked v bytes (f ∷ fs) hears room there is only last own_same =
       let w : BridgeView = step (frame f.0 f.1) v in
-      elim (first_among (f.0 == p) f.1 bytes (frames_at p fs) there) [
-        | inl here ↦ at_once (eqb-true f.0 p here.0) here.1
+      elim there [
+        | inl here ↦ at_once here.0 here.1
         | inr later ↦
             all_acked w bytes fs (next_hears p n f fs v hears) room.1 later is (later_only p l.id a f fs only) last
             (λ own. let before : version_at v.database l.id ≡ a = own_same (own ∙ ap (λ id. id.system) (steps_keep_bridge (frame f.0 f.1) v).id) in
@@ -159,4 +156,4 @@ room_from x (f ∷ fs) v holds = (holds.0 x, room_from x fs (step (frame f.0 f.1
 
 pub lsp_is_acked : LspIsAcked
 lsp_is_acked ids p n v fs bytes l a hears mail within few there is only last some own_same =
-    all_acked p n l a some v bytes fs hears (room_from l.id fs v (mail_fits ids v fs hears.sound mail within few).0) there is only last own_same
+    all_acked p n l a some v bytes fs hears (room_from l.id fs v (mail_fits ids v fs hears.sound mail within few).0) (at_port p fs bytes there) is only last own_same

@@ -1,5 +1,5 @@
 -- What one claim leaves of the flags at a port, where the version under its id stays.
-use Rattle.std.proofs.Common.{◌≡◌, ◌≢◌, ◌⊎◌, inl, inr, ◌≤◌, ◌+◌, ℕ, Bool, true, false, List, [], ◌∷◌, refl, sym, ap, ◌∙◌, subst, Option, Some, None, arith}
+use Rattle.std.proofs.Common.{◌≡◌, ◌≢◌, inl, inr, ◌≤◌, ◌+◌, ℕ, Bool, true, false, List, refl, sym, ap, ◌∙◌, subst, Option, Some, None, arith}
 use Rattle.std.specs.Prelude.{◌&&◌, nat_lt, if◌then◌else◌}
 use Rattle.std.specs.Option.{option_map}
 use Rattle.std.specs.FinMap.{get}
@@ -8,17 +8,17 @@ use Rattle.spb_types.specs.declared.address.LspId.{LspId}
 use Rattle.spb_types.specs.declared.ports.PortSet.{PortSet}
 use Rattle.spb_types.specs.Address.{same_system}
 use Rattle.spb_types.specs.Ports.{has, no_ports}
-use Rattle.spb_types.proofs.PortLemmas.{has-no_ports, has-with_same, has-with_other, has-without_same, has-without_other}
+use Rattle.spb_types.proofs.PortLemmas.{has-with_same, has-with_other, has-without_same, has-without_other}
 use Rattle.isis_pdu.specs.Pdu.{LspValue}
 use Rattle.lsdb.specs.declared.version.Version.{Version}
 use Rattle.lsdb.specs.declared.version.Version.TheVariants.{Absent, Live, Dead}
 use Rattle.lsdb.specs.declared.version.Relation.{Relation}
 use Rattle.lsdb.specs.declared.version.Relation.TheVariants.{Older, Equal, Newer, Confused}
-use Rattle.lsdb.specs.Version.{number_of, is_absent, leq, IsAtMost, relation}
-use Rattle.lsdb.specs.Entry.{Entry, acked, cleared, offered, absent_with_ssn}
+use Rattle.lsdb.specs.Version.{number_of, is_absent, IsAtMost, relation}
+use Rattle.lsdb.specs.Entry.{Entry, acked, cleared, offered}
 use Rattle.lsdb.specs.Database.{version_in, srm_in, ssn_in, version_at}
 use Rattle.lsdb.specs.Certificate.{Claim}
-use Rattle.lsdb.proofs.Order.{itself, greater, newer_is, confused_is, equal_is_same}
+use Rattle.lsdb.proofs.Order.{greater, newer_is, confused_is, equal_is_same}
 use Rattle.lsdb.proofs.LookupLemmas.{same_or_not}
 use Rattle.flooding.specs.declared.own.Own.{Own}
 use Rattle.flooding.specs.Own.{last_number, body_for, renewed, dead_at, answered_by, answered}

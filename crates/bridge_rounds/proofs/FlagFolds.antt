@@ -1,9 +1,9 @@
 -- The flags at a port after all frames of a round, where the version under an id stays and nothing else is claimed there.
-use Rattle.std.proofs.Common.{◌≡◌, ◌≢◌, ◌⊎◌, inl, inr, ◌<◌, ℕ, zero, suc, Bool, true, false, List, [], ◌∷◌, length, refl, sym, ap, ◌∙◌, subst, Option, Some, None, arith}
-use Rattle.std.specs.Prelude.{◌++◌, ◌==◌, flat_map, Contains, if◌then◌else◌}
+use Rattle.std.proofs.Common.{◌≡◌, ◌≢◌, ◌⊎◌, inl, inr, ℕ, Bool, true, false, List, [], ◌∷◌, sym, ◌∙◌, subst, Option}
+use Rattle.std.specs.Prelude.{◌==◌, if◌then◌else◌}
 use Rattle.std.specs.List.{AllByRecursion}
 use Rattle.std.specs.FinMap.{get}
-use Rattle.std.proofs.lemmas.Bool.{cases_eq, eq-eqb, eqb-true}
+use Rattle.std.proofs.lemmas.Bool.{cases_eq, eq-eqb}
 use Rattle.spb_types.specs.declared.address.LspId.{LspId}
 use Rattle.spb_types.specs.Ports.{has}
 use Rattle.isis_pdu.specs.Pdu.{LspValue, CsnpValue}
@@ -12,8 +12,7 @@ use Rattle.lsdb.specs.declared.version.Version.TheVariants.{Absent}
 use Rattle.lsdb.specs.Version.{IsAtMost}
 use Rattle.lsdb.specs.Entry.{Entry}
 use Rattle.lsdb.specs.Database.{version_in, srm_in, ssn_in, version_at}
-use Rattle.lsdb.specs.Certificate.{Claim, IsClaimed}
-use Rattle.lsdb.proofs.Order.{itself, through}
+use Rattle.lsdb.specs.Certificate.{IsClaimed}
 use Rattle.adjacency.specs.Hearing.{End}
 use Rattle.bridge_api.specs.View.{BridgeView}
 use Rattle.bridge_api.specs.Parsing.{parsed}
@@ -23,7 +22,9 @@ use Rattle.bridge_api.specs.Laws.{IsSoundView, claims_said}
 use Rattle.bridge_api.proofs.Sound.{steps_stay_sound}
 use Rattle.bridge_laws.proofs.StepsCarry.{steps_carry_database}
 use Rattle.bridge_rounds.specs.Inbox.{Inbox, heard_all, claims_at, StaysUp}
-use Rattle.bridge_rounds.specs.FlagLaws.{HasNoSrm, HasSsn, HasNoSsn, ClaimsOnly, HasNoCsnp, HasNoLspOf, HearsAt, ClaimsAgree, NothingIsOffered, EqualIsCleared, NothingIsAsked}
+use Rattle.bridge_rounds.specs.FlagLaws.{HasSsn, ClaimsOnly, HearsAt, ClaimsAgree, NothingIsOffered, EqualIsCleared, NothingIsAsked}
+use Rattle.bridge_rounds.proofs.Folds.{claim_first, claim_later, claim_at, Claims, claim_comes}
+use Rattle.bridge_rounds.proofs.LspHeld.{mail_rises}
 use Rattle.bridge_rounds.proofs.FlagClaims.{AreSame}
 use Rattle.bridge_rounds.proofs.FlagFrames.{between, LeavesAt}
 use Rattle.bridge_rounds.proofs.FlagHellos.{IsUpWith}
@@ -39,41 +40,14 @@ all_later : (P : List ℕ → Type 0) (b : Bool) (bytes : List ℕ) (frames : Li
 all_later P true bytes frames all = all.1
 all_later P false bytes frames all = all
 
-claimed_left : (claims more : List Claim) (x : LspId) (a : Version) → IsClaimed claims x a → IsClaimed (claims ++ more) x a
-claimed_left [] more x a claimed = absurd claimed
-claimed_left (c ∷ claims) more x a (inl here) = inl here
-claimed_left (c ∷ claims) more x a (inr there) = inr (claimed_left claims more x a there)
-
-claimed_right : (claims more : List Claim) (x : LspId) (a : Version) → IsClaimed more x a → IsClaimed (claims ++ more) x a
-claimed_right [] more x a claimed = claimed
-claimed_right (c ∷ claims) more x a claimed = inr (claimed_right claims more x a claimed)
-
-claimed_either : (claims more : List Claim) (x : LspId) (a : Version) → IsClaimed (claims ++ more) x a → IsClaimed claims x a ⊎ IsClaimed more x a
-claimed_either [] more x a claimed = inr claimed
-claimed_either (c ∷ claims) more x a (inl here) = inl (inl here)
-claimed_either (c ∷ claims) more x a (inr there) =
-    elim (claimed_either claims more x a there) [
-      | inl left ↦ inl (inr left)
-      | inr right ↦ inr right
-    ]
-
-abbrev SaidIn : List (List ℕ) → List Claim
-SaidIn frames = flat_map (λ bytes. claims_said (parsed bytes)) frames
-
-first_said : (b : Bool) (bytes : List ℕ) (frames : List (List ℕ)) (x : LspId) (a : Version) → b ≡ true → IsClaimed (claims_said (parsed bytes)) x a → IsClaimed (SaidIn (if b then bytes ∷ frames else frames)) x a
-first_said true bytes frames x a is claimed = claimed_left (claims_said (parsed bytes)) (SaidIn frames) x a claimed
-first_said false bytes frames x a is claimed = absurd cc
-
-later_said : (b : Bool) (bytes : List ℕ) (frames : List (List ℕ)) (x : LspId) (a : Version) → IsClaimed (SaidIn frames) x a → IsClaimed (SaidIn (if b then bytes ∷ frames else frames)) x a
-later_said true bytes frames x a claimed = claimed_right (claims_said (parsed bytes)) (SaidIn frames) x a claimed
-later_said false bytes frames x a claimed = claimed
-
-either_said : (b : Bool) (bytes : List ℕ) (frames : List (List ℕ)) (x : LspId) (a : Version) → IsClaimed (SaidIn (if b then bytes ∷ frames else frames)) x a → ((b ≡ true) × IsClaimed (claims_said (parsed bytes)) x a) ⊎ IsClaimed (SaidIn frames) x a
-either_said false bytes frames x a claimed = inr claimed
-either_said true bytes frames x a claimed =
-    elim (claimed_either (claims_said (parsed bytes)) (SaidIn frames) x a claimed) [
-      | inl here ↦ inl (refl, here)
-      | inr later ↦ inr later
+-- a claim is of the first frame, if that comes at the port, or of a later one
+either_claims : (f : ℕ × List ℕ) (fs : Inbox) (p : ℕ) (x : LspId) (a : Version) → IsClaimed (claims_at p (f ∷ fs)) x a → ((f.0 ≡ p) × IsClaimed (claims_said (parsed f.1)) x a) ⊎ IsClaimed (claims_at p fs) x a
+either_claims f fs p x a claimed = by (claim_comes (f ∷ fs) p x a claimed)
+  where
+    by : Claims (f ∷ fs) p x a → ((f.0 ≡ p) × IsClaimed (claims_said (parsed f.1)) x a) ⊎ IsClaimed (claims_at p fs) x a
+    by at = elim at.sent [
+      | inl here ↦ inl (here.0, subst (λ (bytes : List ℕ). IsClaimed (claims_said (parsed bytes)) x a) (sym here.1) at.claimed)
+      | inr there ↦ inr (claim_at fs p at.bytes x a there at.claimed)
     ]
 
 -- ---- a bridge that hears frames while a port stays Up
@@ -88,23 +62,17 @@ next_hears p n f fs v at = record { sound = steps_stay_sound (frame f.0 f.1) v t
 pub first_rises : (f : ℕ × List ℕ) (v : BridgeView) (x : LspId) → IsSoundView v → IsAtMost (version_at v.database x) (version_at (step (frame f.0 f.1) v).database x)
 first_rises f v x sound = (steps_carry_database (frame f.0 f.1) v sound).rises x
 
-pub all_rise : (fs : Inbox) (v : BridgeView) (x : LspId) → IsSoundView v → IsAtMost (version_at v.database x) (version_at (heard_all fs v).database x)
-all_rise [] v x sound = itself (version_at v.database x)
-all_rise (f ∷ fs) v x sound =
-    let w : BridgeView = step (frame f.0 f.1) v in
-    through (version_at v.database x) (version_at w.database x) (version_at (heard_all fs w).database x) (first_rises f v x sound) (all_rise fs w x (steps_stay_sound (frame f.0 f.1) v tt sound))
-
 -- where a version stays in the end, it does so at the first frame
 pub first_stays : (f : ℕ × List ℕ) (fs : Inbox) (v : BridgeView) (x : LspId) → IsSoundView v → version_at (heard_all (f ∷ fs) v).database x ≡ version_at v.database x → version_at (step (frame f.0 f.1) v).database x ≡ version_at v.database x
 first_stays f fs v x sound stays =
     let w : BridgeView = step (frame f.0 f.1) v in
-    between (version_at v.database x) (version_at w.database x) (version_at (heard_all fs w).database x) (first_rises f v x sound) (all_rise fs w x (steps_stay_sound (frame f.0 f.1) v tt sound)) stays
+    between (version_at v.database x) (version_at w.database x) (version_at (heard_all fs w).database x) (first_rises f v x sound) (mail_rises w fs x (steps_stay_sound (frame f.0 f.1) v tt sound)) stays
 
 pub later_only : (p : ℕ) (x : LspId) (a : Version) (f : ℕ × List ℕ) (fs : Inbox) → ClaimsOnly p x a (f ∷ fs) → ClaimsOnly p x a fs
-later_only p x a f fs only b claimed = only b (later_said (f.0 == p) f.1 (frames_at p fs) x b claimed)
+later_only p x a f fs only b claimed = only b (claim_later f fs p x b claimed)
 
 pub first_only : (p : ℕ) (x : LspId) (a : Version) (f : ℕ × List ℕ) (fs : Inbox) → ClaimsOnly p x a (f ∷ fs) → f.0 ≡ p → (b : Version) → IsClaimed (claims_said (parsed f.1)) x b → b ≡ a
-first_only p x a f fs only here b claimed = only b (first_said (f.0 == p) f.1 (frames_at p fs) x b (eq-eqb f.0 p here) claimed)
+first_only p x a f fs only here b claimed = only b (claim_first f fs p x b here claimed)
 
 next_agree : (p : ℕ) (x : LspId) (f : ℕ × List ℕ) (fs : Inbox) (v : BridgeView) → IsSoundView v → ClaimsAgree p x (f ∷ fs) v → ClaimsAgree p x fs (step (frame f.0 f.1) v)
 next_agree p x f fs v sound agree =
@@ -160,12 +128,12 @@ equal_is_cleared p n v (f ∷ fs) x a hears agree lacking claimed some =
     let rest = all_later (λ bytes. (c : CsnpValue) → parsed bytes ≢ parsing.csnp c) (f.0 == p) f.1 (frames_at p fs) lacking in
     let hears' : HearsAt p n fs w = next_hears p n f fs v hears in
     let agree' : ClaimsAgree p x fs w = next_agree p x f fs v hears.sound agree in
-    elim (either_said (f.0 == p) f.1 (frames_at p fs) x a claimed) [
+    elim (either_claims f fs p x a claimed) [
       | inl first ↦
           nothing_is_offered p n w fs x hears' agree' rest
           (cleared_first p x f a (get v.database x) (get w.database x) (first_leaves p n x f fs v hears agree)
           (λ is. all_first (λ bytes. (c : CsnpValue) → parsed bytes ≢ parsing.csnp c) (f.0 == p) f.1 (frames_at p fs) (eq-eqb f.0 p is) lacking)
-          (eqb-true f.0 p first.0) first.1 (λ none. some (agree.claims a claimed ∙ none)))
+          first.0 first.1 (λ none. some (agree.claims a claimed ∙ none)))
       | inr later ↦ equal_is_cleared p n w fs x a hears' agree' rest later some
     ]
 

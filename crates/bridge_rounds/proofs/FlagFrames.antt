@@ -1,6 +1,5 @@
 -- What one frame leaves of the flags at a port that stays Up with its neighbour, where the version under an id stays.
-use Rattle.std.proofs.Common.{◌≡◌, ◌≢◌, ◌⊎◌, inl, inr, ◌≤◌, ◌+◌, ◌-◌, ℕ, zero, suc, Bool, true, false, List, [], ◌∷◌, length, refl, sym, ap, ◌∙◌, subst, Option, Some, None, Result, Ok, Err}
-use Rattle.std.specs.Prelude.{slice_get, slice_set, if◌then◌else◌}
+use Rattle.std.proofs.Common.{◌≡◌, ◌≢◌, ◌⊎◌, inl, inr, ℕ, Bool, true, false, List, [], ◌∷◌, refl, sym, ap, ◌∙◌, subst, Option, Some, None}
 use Rattle.std.specs.Option.{option_map}
 use Rattle.std.specs.FinMap.{get}
 use Rattle.std.proofs.lemmas.Bool.{true≢false}
@@ -9,12 +8,10 @@ use Rattle.spb_types.specs.declared.ports.PortSet.{PortSet}
 use Rattle.spb_types.specs.Ports.{has}
 use Rattle.spb_types.proofs.PortLemmas.{has_port, has-with_other}
 use Rattle.isis_pdu.specs.Pdu.{LspValue, CsnpValue}
-use Rattle.spb_tlvs.specs.declared.error.TlvError.{TlvError}
-use Rattle.spb_tlvs.specs.declared.entries.SnpEntry.{SnpEntry}
 use Rattle.lsdb.specs.declared.version.Version.{Version}
 use Rattle.lsdb.specs.declared.version.Version.TheVariants.{Absent}
 use Rattle.lsdb.specs.Version.{IsAtMost}
-use Rattle.lsdb.specs.Entry.{Entry, flagged}
+use Rattle.lsdb.specs.Entry.{Entry}
 use Rattle.lsdb.specs.Database.{version_in, srm_in, ssn_in, version_at}
 use Rattle.lsdb.specs.Certificate.{Claim, IsClaimed}
 use Rattle.lsdb.proofs.Order.{both_ways}
@@ -24,13 +21,12 @@ use Rattle.flooding.specs.Room.{has_room}
 use Rattle.flooding.proofs.Changed.{held_has_room}
 use Rattle.flooding.proofs.Claimed.{others_stand, full_stands, fitting_is_not_full}
 use Rattle.flooding.proofs.Steps.{hearing_entry}
-use Rattle.snp_sync.specs.Reading.{entries_in}
-use Rattle.snp_sync.specs.Hearing.{claims_in, hear_entries_of, ids_of, is_missed, flag_if, hear_csnp_of}
+use Rattle.snp_sync.specs.Hearing.{hear_entries_of, ids_of, is_missed, flag_if, hear_csnp_of}
 use Rattle.snp_sync.proofs.Served.{entries_are_certified, csnp_stands}
 use Rattle.bridge_api.specs.Parsing.{Parsed}
 use Rattle.bridge_api.specs.Parsing as parsing
-use Rattle.bridge_api.specs.Laws.{claims_said, claims_or_none}
-use Rattle.bridge_rounds.proofs.FlagClaims.{AreSame, unchanged, then_same, mapped, lsp_beside, entry_beside, IsAckedAt, lsp_equal, IsClearedAt, entry_equal}
+use Rattle.bridge_api.specs.Laws.{claims_said}
+use Rattle.bridge_rounds.proofs.FlagClaims.{AreSame, unchanged, then_same, mapped, entry_beside, IsAckedAt, lsp_equal, IsClearedAt, entry_equal}
 
 -- ---- versions that stay
 
@@ -146,9 +142,11 @@ module _ (up : PortSet) (q : ℕ) (is_up : has up q ≡ true) where
     where
       cleared : {o n : Option Entry} → IsClearedAt q o n → ClearsAt q c.id (c ∷ []) o n
       cleared is = record { srm_stays = is.srm_stays; srm = λ a claimed some. is.srm some; ssn = is.ssn }
+
       named : {a : Version} → (x ≡ c.id → ⊥) → ((c.id ≡ x) × (c.version ≡ a)) ⊎ ⊥ → ⊥
       named other (inl is) = other (sym is.0)
       named other (inr none) = none
+
       left : {o n : Option Entry} → (x ≡ c.id → ⊥) → AreSame q o n → ClearsAt q x (c ∷ []) o n
       left other same = record { srm_stays = λ off. same.srm ∙ off; srm = λ a claimed some. absurd (named other claimed); ssn = same.ssn }
 

@@ -1,15 +1,13 @@
 -- What a hello leaves of the flags at a port that stays Up with its neighbour, where what the bridge has to say stays.
-use Rattle.std.proofs.Common.{◌≡◌, ◌≢◌, ◌⊎◌, inl, inr, ◌≤◌, ◌+◌, ◌-◌, ℕ, zero, suc, Bool, true, false, List, [], ◌∷◌, length, refl, sym, ap, ◌∙◌, subst, Option, Some, None}
-use Rattle.std.specs.Prelude.{◌&&◌, ◌==◌, not, slice_get, slice_set, if◌then◌else◌}
+use Rattle.std.proofs.Common.{◌≡◌, ◌≢◌, ◌⊎◌, inl, inr, ◌≤◌, ◌+◌, ◌-◌, ℕ, zero, suc, Bool, true, false, List, [], ◌∷◌, refl, sym, ap, ◌∙◌, subst, Option, Some, None}
+use Rattle.std.specs.Prelude.{◌&&◌, not, slice_get, slice_set, if◌then◌else◌}
 use Rattle.std.specs.Option.{option_map, option_and_then}
 use Rattle.std.specs.FinMap.{get}
-use Rattle.std.proofs.lemmas.Bool.{cases_eq, eq-eqb, le-leb}
+use Rattle.std.proofs.lemmas.Bool.{eq-eqb, le-leb}
 use Rattle.std.proofs.lemmas.List.{set-set}
 use Rattle.std.proofs.lemmas.Option.{slice_get_within}
 use Rattle.std.proofs.lemmas.Slice.Eq.{bytes_eq-Decides}
 use Rattle.spb_types.specs.declared.address.LspId.{LspId}
-use Rattle.spb_types.specs.Address.{same_system}
-use Rattle.spb_types.specs.Ports.{has}
 use Rattle.spb_types.proofs.PortLemmas.{has-with_other, has-without_other}
 use Rattle.isis_pdu.specs.Pdu.{HelloValue}
 use Rattle.spb_tlvs.specs.declared.three_way.ThreeWay.{ThreeWay}
@@ -34,7 +32,7 @@ use Rattle.bridge_api.specs.Laws.{IsSoundView}
 use Rattle.bridge_api.proofs.Adjacent.{up_keeps}
 use Rattle.bridge_api.proofs.Bodies.{held_bodies, moved_bodies, same_at}
 use Rattle.bridge_api.proofs.Certified.{noted_keeps}
-use Rattle.bridge_api.proofs.Changes.{found, heard_hello_ports, originated_if_changed_ports}
+use Rattle.bridge_api.proofs.Changes.{heard_hello_ports, originated_if_changed_ports}
 use Rattle.bridge_api.proofs.OwnLspSteps.{IsSaying, saying_settles, was_saying}
 use Rattle.bridge_api.proofs.Places.{got_at}
 use Rattle.bridge_laws.proofs.StepsCarry.{Stood, stood}

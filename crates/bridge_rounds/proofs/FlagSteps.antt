@@ -1,12 +1,9 @@
 -- What one frame leaves of the flags at a port that stays Up with its neighbour: one that comes at another port, and one
 -- that comes there.
-use Rattle.std.proofs.Common.{◌≡◌, ◌≢◌, inl, inr, ◌≤◌, ℕ, Bool, true, false, List, [], ◌∷◌, refl, sym, ap, ◌∙◌, subst, Option, Some, None, Result, Ok, Err}
+use Rattle.std.proofs.Common.{◌≡◌, ◌≢◌, ℕ, Bool, true, false, List, refl, sym, ap, ◌∙◌, subst, Option, Some, None, Result, Ok, Err}
 use Rattle.std.specs.Prelude.{if◌then◌else◌}
-use Rattle.std.specs.Option.{option_and_then}
 use Rattle.std.specs.FinMap.{get}
-use Rattle.std.proofs.lemmas.Bool.{true≢false}
 use Rattle.spb_types.specs.declared.address.LspId.{LspId}
-use Rattle.spb_types.specs.declared.ports.PortSet.{PortSet}
 use Rattle.spb_types.specs.Ports.{has}
 use Rattle.spb_types.proofs.PortLemmas.{has_port}
 use Rattle.isis_pdu.specs.Pdu.{LspValue, CsnpValue, PsnpValue}
@@ -16,9 +13,8 @@ use Rattle.lsdb.specs.declared.version.Version.{Version}
 use Rattle.lsdb.specs.Entry.{Entry}
 use Rattle.lsdb.specs.Database.{Lsps, version_at}
 use Rattle.lsdb.specs.Certificate.{IsClaimed}
-use Rattle.flooding.specs.Hearing.{Holding, claim_of}
 use Rattle.snp_sync.specs.Reading.{entries_in}
-use Rattle.snp_sync.specs.Hearing.{claims_in, hear_entries_of}
+use Rattle.snp_sync.specs.Hearing.{claims_in}
 use Rattle.adjacency.specs.declared.state.AdjState.{AdjState}
 use Rattle.adjacency.specs.declared.state.AdjState.TheVariants.{Down, Initializing, Up}
 use Rattle.adjacency.specs.declared.port.Adjacency.{Adjacency}
@@ -96,7 +92,7 @@ module _ (p q : ℕ) (n : End) (bytes : List ℕ) (x : LspId) (v w : BridgeView)
 -- ---- at the port itself
 
 -- a port that is Up has carrier
-up_carrier : (s : AdjState) (a : Adjacency) → SoundIn s a → is_up s ≡ true → a.carrier ≡ true
+pub up_carrier : (s : AdjState) (a : Adjacency) → SoundIn s a → is_up s ≡ true → a.carrier ≡ true
 up_carrier Down a sound up = absurd cc
 up_carrier Initializing a sound up = absurd cc
 up_carrier Up a sound up = sound.1

@@ -24,20 +24,18 @@ use Rattle.itag_frames.specs.Classify.{content_in, ControlAgain}
 use Rattle.lsdb.specs.Entry.{Entry}
 use Rattle.lsdb.specs.Database.{Lsps, srm_in}
 use Rattle.flooding.specs.Sending.{lsp_in, lsps_to_send}
-use Rattle.flooding.specs.Entries.{IsSendable}
 use Rattle.snp_sync.specs.Sized.{IsLspId, IsSizedEntry}
 use Rattle.snp_sync.specs.Sending.{CsnpChunk, csnp_for, csnp_chunks, csnps_of, psnp_for, psnp_chunks, psnps_of}
 use Rattle.snp_sync.proofs.Ranges.{of_entries, csnp_chunks_are_short, csnp_chunks_end_at_ids, psnp_chunks_are_short}
 use Rattle.snp_sync.proofs.Said.{csnp_entries_are_sized, psnp_entries_are_sized}
-use Rattle.spb_content.proofs.Members.{Has, all_has, has_all, filter_has}
+use Rattle.spb_content.proofs.Members.{all_has, has_all, filter_has}
 use Rattle.adjacency.specs.Adjacency.{said}
 use Rattle.bridge_api.specs.declared.port.BridgePort.{BridgePort}
 use Rattle.bridge_api.specs.View.{BridgeView, is_port_up, up_ports}
 use Rattle.bridge_api.specs.Parsing.{Parsed, is_octets, parsed, by_content, by_pdu, by_three_way, by_reading}
 use Rattle.bridge_api.specs.Parsing as parsing
 use Rattle.bridge_api.specs.Ticking.{readied, hello_at, hello_frame, lsp_frame, csnp_frame, psnp_frame, hellos_at, summaries_at, lsps_at, requests_at, synced_at, sent_at, after_sending_at, sent_from, sent_in_tick}
-use Rattle.bridge_api.specs.Step.{second, sent}
-use Rattle.bridge_api.specs.Laws.{IsSoundPort, IsSoundView, IsSent}
+use Rattle.bridge_api.specs.Laws.{IsSoundPort, IsSent}
 use Rattle.bridge_api.specs.Duties.{but_for_ssn}
 use Rattle.bridge_api.proofs.Changes.{readied_ports, readied_rest}
 use Rattle.bridge_api.proofs.Data.{IsSoundData, after_sending_at_keeps}
@@ -119,9 +117,10 @@ module _ (again : ControlAgain) (up : PortSet) (system : SystemId) (q : ℕ) (po
       (all_mapped (λ (c : CsnpValue). (q, csnp_frame system c)) (λ s. IsNoLsp s.1) (csnps_of system db)
       (all_mapped (csnp_for system) (λ (c : CsnpValue). IsNoLsp (csnp_frame system c)) (csnp_chunks db)
       (has_all (λ (chunk : CsnpChunk). IsNoLsp (csnp_frame system (csnp_for system chunk))) (csnp_chunks db)
-      (λ chunk among. csnp_is_no_lsp again system six chunk
-      (all_has (λ (c : CsnpChunk). length c.entries ≤ 90) chunk (csnp_chunks db) (csnp_chunks_are_short db) among,
-      all_has (λ (c : CsnpChunk). IsLspId c.start × IsLspId c.end) chunk (csnp_chunks db) (csnp_chunks_end_at_ids db (λ id e at. (held.sized id e at).named)) among)
+      (λ chunk among. csnp_is_no_lsp again system six chunk (
+        all_has (λ (c : CsnpChunk). length c.entries ≤ 90) chunk (csnp_chunks db) (csnp_chunks_are_short db) among,
+        all_has (λ (c : CsnpChunk). IsLspId c.start × IsLspId c.end) chunk (csnp_chunks db) (csnp_chunks_end_at_ids db (λ id e at. (held.sized id e at).named)) among,
+      )
       (all_has (λ (c : CsnpChunk). AllByRecursion IsSizedEntry c.entries) chunk (csnp_chunks db) (csnp_entries_are_sized db held.sized) among)))))
 
   requests_are_no_lsps : AllByRecursion (λ s. IsNoLsp s.1) (requests_at system q db)

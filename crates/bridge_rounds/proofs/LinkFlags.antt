@@ -1,6 +1,5 @@
 -- Where both ends of a link come to hold the same, the flags at its ports go down in two rounds.
 use Rattle.std.proofs.Common.{◌≡◌, ◌≢◌, ◌⊎◌, inl, inr, ◌≤◌, ℕ, Bool, true, false, List, [], ◌∷◌, length, refl, sym, ap, ◌∙◌, subst, Option, Some, None}
-use Rattle.std.specs.Prelude.{Contains}
 use Rattle.std.specs.FinMap.{get}
 use Rattle.std.proofs.lemmas.Bool.{true≢false}
 use Rattle.spb_types.specs.declared.address.BridgeId.{BridgeId}
@@ -18,20 +17,20 @@ use Rattle.flooding.specs.Hearing.{claim_of}
 use Rattle.flooding.specs.Entries.{HaveFlagsAt}
 use Rattle.adjacency.specs.Hearing.{End}
 use Rattle.bridge_api.specs.View.{BridgeView, is_up_at, up_ports}
-use Rattle.bridge_api.specs.Parsing.{Parsed, parsed}
-use Rattle.bridge_api.specs.Parsing as parsing
-use Rattle.bridge_api.specs.Step.{second, frame, step, frames_at}
-use Rattle.bridge_api.specs.Laws.{IsSoundView, claims_said}
+use Rattle.bridge_api.specs.Parsing.{Parsed}
+use Rattle.bridge_api.specs.Step.{second, frame, step}
+use Rattle.bridge_api.specs.Laws.{claims_said}
 use Rattle.bridge_api.proofs.Certified.{steps_keep_bridge}
 use Rattle.bridge_api.proofs.Serving.{seconds_leave_nothing_due}
-use Rattle.bridge_api.proofs.Sound.{steps_stay_sound}
 use Rattle.bridge_rounds.specs.Inbox.{Inbox, heard_all, after_round, claims_at, StaysUp, IsMail, HoldsWithin}
 use Rattle.bridge_rounds.specs.Versions.{KeptAt, is_flagged, is_absent, is_as_before, is_claimed}
 use Rattle.bridge_rounds.specs.FlagLaws.{HasSrm, HasNoSrm, HasSsn, HasNoSsn, ClaimsOnly, ClaimsAgree}
-use Rattle.bridge_rounds.specs.LinkFlags.{HasLspOf, IsSentOver, IsLinkRound, IsReadyFor, ComesToAgree, NeighbourAnswers, Agrees, AnsweredIsCleared, SilenceFollows}
+use Rattle.bridge_rounds.specs.LinkFlags.{HasLspOf, IsSentOver, ComesToAgree, NeighbourAnswers, Agrees, AnsweredIsCleared, SilenceFollows, CanAnswer, LinksFallSilent}
 use Rattle.bridge_rounds.proofs.Folds.{at_port, claim_at}
 use Rattle.bridge_rounds.proofs.KeptPorts.{round_is_kept}
-use Rattle.bridge_rounds.proofs.FlagFolds.{all_rise, nothing_is_offered, equal_is_cleared, nothing_is_asked}
+use Rattle.bridge_rounds.proofs.LspHeld.{mail_rises}
+use Rattle.bridge_rounds.proofs.MailSound.{mail_is_sound}
+use Rattle.bridge_rounds.proofs.FlagFolds.{nothing_is_offered, equal_is_cleared, nothing_is_asked}
 use Rattle.bridge_rounds.proofs.FlagAcked.{lsp_is_acked}
 
 -- ---- one end
@@ -43,7 +42,7 @@ up_last p n (f ∷ fs) v stays = up_last p n fs (step (frame f.0 f.1) v) stays.2
 
 -- a version that is not lower after the round than it was
 risen : (id : LspId) (u : BridgeView) (q : ℕ) (v : BridgeView) (p : ℕ) (fs : Inbox) → IsSentOver id u q v p fs → IsAtMost (version_at v.database id) (version_at (after_round fs v).database id)
-risen id u q v p fs over = subst (λ (a : Version). IsAtMost a (version_at (after_round fs v).database id)) over.still.version (all_rise fs (step second v) id over.hears.sound)
+risen id u q v p fs over = subst (λ (a : Version). IsAtMost a (version_at (after_round fs v).database id)) over.still.version (mail_rises (step second v) fs id over.hears.sound)
 
 -- where the version of the other end is the own one before and after, nothing else is claimed
 agree_there : (id : LspId) (u : BridgeView) (q : ℕ) (v : BridgeView) (p : ℕ) (fs : Inbox) → IsSentOver id u q v p fs → version_at u.database id ≡ version_at v.database id → version_at (after_round fs v).database id ≡ version_at v.database id → ClaimsAgree p id fs (step second v)
@@ -117,10 +116,6 @@ absent_in : (v : BridgeView) (id : LspId) (q : ℕ) (o : Option Entry) → HaveF
 absent_in v id q None flags is none = has-no_ports q
 absent_in v id q (Some e) flags is none = (flags id e is).absent none q
 
-all_sound : (fs : Inbox) (v : BridgeView) → IsSoundView v → IsSoundView (heard_all fs v)
-all_sound [] v sound = sound
-all_sound (f ∷ fs) v sound = all_sound fs (step (frame f.0 f.1) v) (steps_stay_sound (frame f.0 f.1) v tt sound)
-
 module _ (id : LspId) (u v : BridgeView) (q p : ℕ) (us : Inbox) (over : IsSentOver id v p u q us) (agrees : Agrees id u us v) where
   agree : ClaimsAgree q id us (step second u)
   agree = agree_there id v p u q us over agrees.same agrees.stays
@@ -147,7 +142,7 @@ module _ (id : LspId) (u v : BridgeView) (q p : ℕ) (us : Inbox) (over : IsSent
 
   cleared_at : (a : Version) → version_at u.database id ≡ a → (version_at u.database id ≢ Absent → HasSrm u id q → HasSrm v id p ⊎ HasSsn v id p) → HasNoSrm (after_round us u) id q
   cleared_at Absent is answers =
-      absent_in (after_round us u) id q (get (after_round us u).database id) (all_sound us (step second u) over.hears.sound).database.flags refl (agrees.stays ∙ is)
+      absent_in (after_round us u) id q (get (after_round us u).database id) (mail_is_sound (step second u) us over.hears.sound).1.database.flags refl (agrees.stays ∙ is)
   cleared_at (Live n s) is answers = let some : version_at u.database id ≢ Absent = λ none. let wrong : Live n s ≡ Absent = sym is ∙ none in absurd cc in cleared_by (has (srm_in (get u.database id)) q) refl some (answers some)
   cleared_at (Dead n) is answers = let some : version_at u.database id ≢ Absent = λ none. let wrong : Dead n ≡ Absent = sym is ∙ none in absurd cc in cleared_by (has (srm_in (get u.database id)) q) refl some (answers some)
 
@@ -159,3 +154,30 @@ answered_is_cleared id u v q p us over agrees answers = cleared_at id u v q p us
 
 pub silence_follows : SilenceFollows
 silence_follows id u v q p us over agrees off other = (stays_unset id u v q p us over agrees off, silent id u v q p us over agrees other)
+
+-- ---- three rounds
+
+-- the other way round
+turned : (id : LspId) (u v : BridgeView) (q p : ℕ) (us vs : Inbox) (a : Version) → ComesToAgree id u q us v p vs a → ComesToAgree id v p vs u q us a
+turned id u v q p us vs a at = record {
+  round = record { there = at.round.back; back = at.round.there };
+  ready_there = at.ready_back;
+  ready_back = at.ready_there;
+  held_there = at.held_back;
+  held_back = at.held_there;
+}
+
+-- after the second round
+second_clears : (id : LspId) (u v : BridgeView) (q p : ℕ) (us vs next_us next_vs : Inbox) (a : Version) → ComesToAgree id u q us v p vs a → CanAnswer id u v vs
+    → ComesToAgree id (after_round us u) q next_us (after_round vs v) p next_vs a → HasNoSrm (after_round next_us (after_round us u)) id q
+second_clears id u v q p us vs next_us next_vs a first can next =
+    answered_is_cleared id (after_round us u) (after_round vs v) q p next_us next.round.back
+    (record { same = first.held_back ∙ sym first.held_there; stays = next.held_there ∙ sym first.held_there })
+    (λ some set. neighbour_answers can.ids id u v q p us vs a first can.mail can.within can.few (λ none. some (first.held_there ∙ none)) can.ahead set)
+
+pub links_fall_silent : LinksFallSilent
+links_fall_silent id u v q p us vs next_us next_vs last_us last_vs a first can turn next last =
+    silence_follows id (after_round next_us (after_round us u)) (after_round next_vs (after_round vs v)) q p last_us last.round.back
+    (record { same = next.held_back ∙ sym next.held_there; stays = last.held_there ∙ sym next.held_there })
+    (second_clears id u v q p us vs next_us next_vs a first can next)
+    (second_clears id v u p q vs us next_vs next_us a (turned id u v q p us vs a first) turn (turned id (after_round us u) (after_round vs v) q p next_us next_vs a next))

@@ -1,12 +1,11 @@
 -- What comes over a link in a round tells of each LSP what its sender holds, and has to send or to acknowledge.
-use Rattle.std.proofs.Common.{◌≡◌, ◌≢◌, inl, inr, ◌≤◌, ◌<◌, ◌-◌, ℕ, zero, suc, Bool, true, false, List, [], ◌∷◌, length, map, filter, refl, sym, ap, ◌∙◌, subst, Option, Some, None, Result, Ok, Err, arith}
+use Rattle.std.proofs.Common.{◌≡◌, ◌≢◌, inl, inr, ◌-◌, ℕ, suc, Bool, true, false, List, [], ◌∷◌, map, refl, sym, ap, ◌∙◌, subst, Option, Some, None, Result, Ok, arith}
 use Rattle.std.specs.Prelude.{◌==◌, nat_le, slice_get, flat_map, Contains, if◌then◌else◌}
 use Rattle.std.specs.List.{AllByRecursion}
 use Rattle.std.specs.Option.{option_map}
 use Rattle.std.specs.FinMap.{get, entries}
 use Rattle.std.proofs.lemmas.Bool.{true≢false, eq-eqb, eqb-true}
 use Rattle.std.proofs.lemmas.Option.{slice_get-map}
-use Rattle.spb_types.specs.declared.address.SystemId.{SystemId}
 use Rattle.spb_types.specs.declared.address.LspId.{LspId}
 use Rattle.spb_types.specs.Ports.{has}
 use Rattle.spb_types.proofs.PortLemmas.{has-no_ports}
@@ -33,7 +32,7 @@ use Rattle.bridge_api.specs.View.{BridgeView, port_in, port_at, is_up_in, is_up_
 use Rattle.bridge_api.specs.Parsing.{Parsed, parsed}
 use Rattle.bridge_api.specs.Parsing as parsing
 use Rattle.bridge_api.specs.Hearing.{with_csnp_due}
-use Rattle.bridge_api.specs.Ticking.{readied, lsp_frame, psnp_frame, after_sending, after_tick}
+use Rattle.bridge_api.specs.Ticking.{readied, lsp_frame, psnp_frame, after_tick}
 use Rattle.bridge_api.specs.Step.{second, step, sent, frames_at}
 use Rattle.bridge_api.specs.Laws.{IsSoundView, IsSent, IsHeldAt, claims_said, claims_or_none}
 use Rattle.bridge_api.specs.Duties.{but_for_ssn}
@@ -44,10 +43,10 @@ use Rattle.bridge_api.proofs.Serving.{seconds_serve, seconds_leave_nothing_due}
 use Rattle.bridge_laws.proofs.Frames.{sent_is_sound}
 use Rattle.bridge_rounds.specs.Inbox.{Inbox, claims_at}
 use Rattle.bridge_rounds.specs.Seconds.{IsCalmSecond}
-use Rattle.bridge_rounds.specs.FlagLaws.{HasSrm, HasNoSrm, HasSsn, HasNoLspOf}
+use Rattle.bridge_rounds.specs.FlagLaws.{HasNoSrm}
 use Rattle.bridge_rounds.specs.LinkFlags.{StandsStill, HasLspOf, IsSentOver}
 use Rattle.bridge_rounds.specs.LinkFrames.{IsToldAt, SsnIsTold, ComesOver, FramesTell}
-use Rattle.bridge_rounds.proofs.Folds.{at_port, claim_at, claim_comes}
+use Rattle.bridge_rounds.proofs.Folds.{claim_at, claim_comes}
 use Rattle.bridge_rounds.proofs.FlaggedLsps.{same_srm, lsps_are_flagged}
 
 -- ---- what has SSN is told

@@ -40,7 +40,8 @@ abbrev pub HasNoCsnp : ℕ → Inbox → Type 0
 HasNoCsnp p fs = AllByRecursion (λ bytes. (c : CsnpValue) → parsed bytes ≢ parsing.csnp c) (frames_at p fs)
 
 abbrev pub HasNoLspOf : LspId → ℕ → Inbox → Type 0
-HasNoLspOf id p fs = AllByRecursion (λ bytes. (l : LspValue) → parsed bytes ≡ parsing.lsp l → l.id ≢ id) (frames_at p fs)
+HasNoLspOf id p fs = AllByRecursion (λ bytes. (l : LspValue) → parsed bytes ≡ parsing.lsp l → l.id ≢ id)
+    (frames_at p fs)
 
 -- a sound bridge to which these frames come, while a port stays Up with one neighbour and what the bridge has to say
 -- stays the same

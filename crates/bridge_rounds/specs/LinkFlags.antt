@@ -1,6 +1,6 @@
 -- What becomes of the flags of an LSP at the two ends of a link in a round that changes no version but by what is
--- heard: where both ends come to hold the same, each that has still to send it gets an answer, then nothing has SRM, and
--- then nothing has SSN (ISO/IEC 10589, 7.3.15).
+-- heard: where both ends come to hold the same, each that has still to send it gets an answer; then nothing has SRM,
+-- and then nothing has SSN (ISO/IEC 10589, 7.3.15).
 use Rattle.std.specs.Prelude.{◌≡◌, ◌≢◌, ◌⊎◌, ℕ, ◌≤◌, List, length, Contains}
 use Rattle.std.specs.FinMap.{get}
 use Rattle.spb_types.specs.declared.address.LspId.{LspId}
@@ -34,8 +34,8 @@ pub record HasLspOf (id : LspId) (p : ℕ) (fs : Inbox) : Type 0 where
   pub named : lsp.id ≡ id
 
 -- a bridge u sends at its port q what comes in a round to a bridge v at its port p, which stays Up: what is claimed of
--- an id is what u holds; its LSP comes if u has SRM there, and only then; a line of a PSNP comes if u has SSN there; and
--- no CSNP comes
+-- an id is what u holds; its LSP comes if u has SRM there, and only then; an entry of a PSNP comes if u has SSN there;
+-- and no CSNP comes
 pub record IsSentOver (id : LspId) (u : BridgeView) (q : ℕ) (v : BridgeView) (p : ℕ) (fs : Inbox) : Type 0 where
   pub sound : IsSoundView v
   pub still : StandsStill id v
@@ -48,7 +48,8 @@ pub record IsSentOver (id : LspId) (u : BridgeView) (q : ℕ) (v : BridgeView) (
   pub told : HasSsn u id q → IsClaimed (claims_at p fs) id (version_at u.database id)
 
 -- so over a link in both directions
-pub record IsLinkRound (id : LspId) (u : BridgeView) (q : ℕ) (us : Inbox) (v : BridgeView) (p : ℕ) (vs : Inbox) : Type 0 where
+pub record IsLinkRound (id : LspId) (u : BridgeView) (q : ℕ) (us : Inbox) (v : BridgeView) (p : ℕ)
+    (vs : Inbox) : Type 0 where
   pub there : IsSentOver id u q v p vs
   pub back : IsSentOver id v p u q us
 
@@ -91,3 +92,22 @@ abbrev pub SilenceFollows : Type 0
 SilenceFollows = (id : LspId) (u v : BridgeView) (q p : ℕ) (us : Inbox) → IsSentOver id v p u q us → Agrees id u us v
     → HasNoSrm u id q → HasNoSrm v id p
     → HasNoSrm (after_round us u) id q × HasNoSsn (after_round us u) id q
+
+-- v hears of few ids, and of its own system it holds no older LSP than u
+pub record CanAnswer (id : LspId) (u v : BridgeView) (vs : Inbox) : Type 0 where
+  pub ids : List LspId
+  pub few : length ids ≤ 900
+  pub within : HoldsWithin ids (step second v)
+  pub mail : IsMail ids (step second v) vs
+  pub ahead : id.system ≡ v.id.system → IsAtMost (version_at u.database id) (version_at v.database id)
+
+-- so three rounds of a link, of which the first leaves both ends with one version, and the others leave it, end with
+-- nothing to send or to acknowledge
+abbrev pub LinksFallSilent : Type 0
+LinksFallSilent = (id : LspId) (u v : BridgeView) (q p : ℕ) (us vs next_us next_vs last_us last_vs : Inbox)
+    (a : Version) → ComesToAgree id u q us v p vs a → CanAnswer id u v vs → CanAnswer id v u us
+    → ComesToAgree id (after_round us u) q next_us (after_round vs v) p next_vs a
+    → ComesToAgree id (after_round next_us (after_round us u)) q last_us (after_round next_vs (after_round vs v)) p
+    last_vs a
+    → HasNoSrm (after_round last_us (after_round next_us (after_round us u))) id q
+    × HasNoSsn (after_round last_us (after_round next_us (after_round us u))) id q

@@ -7,7 +7,6 @@ use Rattle.spb_types.specs.Ports.{has}
 use Rattle.isis_pdu.specs.Pdu.{LspValue}
 use Rattle.spb_tlvs.specs.RoundTrip.{IsNamed}
 use Rattle.lsdb.specs.Entry.{Entry}
-use Rattle.lsdb.specs.Database.{version_at}
 use Rattle.lsdb.specs.Certificate.{IsClaimed}
 use Rattle.adjacency.specs.Hearing.{End}
 use Rattle.bridge_api.specs.View.{BridgeView, is_up_at, neighbour_at}
@@ -18,7 +17,7 @@ use Rattle.bridge_api.specs.Step.{second, step, sent, frames_at}
 use Rattle.bridge_api.specs.Laws.{IsSoundView, IsSent, claims_said}
 use Rattle.bridge_rounds.specs.Inbox.{Inbox}
 use Rattle.bridge_rounds.specs.Seconds.{IsCalmSecond}
-use Rattle.bridge_rounds.specs.FlagLaws.{HasSrm, HasSsn, HasNoCsnp, HearsAt}
+use Rattle.bridge_rounds.specs.FlagLaws.{HasSrm, HasNoCsnp, HearsAt}
 use Rattle.bridge_rounds.specs.LinkFlags.{IsSentOver}
 
 -- a frame that is heard as an LSP is sent only where that LSP has SRM

@@ -18,7 +18,7 @@ pub use seconds::{
 };
 
 mod flags;
-mod inbox;
 mod hearing;
-mod seconds;
+mod inbox;
 mod links;
+mod seconds;

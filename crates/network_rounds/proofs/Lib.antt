@@ -5,6 +5,7 @@ pub mod Lanes
 pub mod Near
 pub mod Chain
 pub mod Along
+pub mod Flagged
 pub mod BridgeLaws
 pub mod Start
 pub mod Coming

@@ -1,6 +1,7 @@
 pub mod Rounds
-pub mod Near
-pub mod Along
 pub mod Premises
 pub mod Settling
+pub mod Near
+pub mod Along
+pub mod Flags
 pub mod Steady

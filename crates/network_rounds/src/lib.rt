@@ -5,6 +5,8 @@
 
 pub use laws::{bridges_are_near, rounds_are_heard, rounds_keep_networks_sound};
 pub use steady::nothing_is_lost;
+pub use flags::flags_fall;
 
+mod flags;
 mod laws;
 mod steady;

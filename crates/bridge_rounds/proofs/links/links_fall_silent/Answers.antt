@@ -1,4 +1,4 @@
-use Rattle.bridge_rounds.proofs.LinkFlags.{neighbour_answers, answered_is_cleared, silence_follows}
+use Rattle.bridge_rounds.proofs.LinkFlags.{neighbour_answers, answered_is_cleared, silence_follows, links_fall_silent}
 use Rattle.bridge_rounds.proofs.links.links_fall_silent.Goals as goal
 
 pub returns-clause-answers : goal.returns-clause-answers
@@ -9,3 +9,6 @@ returns-clause-cleared c = answered_is_cleared
 
 pub returns-clause-silence : goal.returns-clause-silence
 returns-clause-silence c = silence_follows
+
+pub returns-clause-three : goal.returns-clause-three
+returns-clause-three c = links_fall_silent
