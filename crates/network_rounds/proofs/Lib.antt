@@ -10,3 +10,6 @@ pub mod BridgeLaws
 pub mod Start
 pub mod Coming
 pub mod Passing
+pub mod Facts
+pub mod FactsRise
+pub mod FactsStand

@@ -5,3 +5,4 @@ pub mod Near
 pub mod Along
 pub mod Flags
 pub mod Steady
+pub mod Agreement

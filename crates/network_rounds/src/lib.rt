@@ -3,10 +3,12 @@
 //! There is no code here: each law is the contract of a function that does nothing.
 #![tactic(auto)]
 
+pub use agreement::bridges_come_to_agree;
+pub use flags::flags_fall;
 pub use laws::{bridges_are_near, rounds_are_heard, rounds_keep_networks_sound};
 pub use steady::nothing_is_lost;
-pub use flags::flags_fall;
 
+mod agreement;
 mod flags;
 mod laws;
 mod steady;
