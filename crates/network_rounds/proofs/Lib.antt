@@ -13,3 +13,4 @@ pub mod Passing
 pub mod Facts
 pub mod FactsRise
 pub mod FactsStand
+pub mod Quieting
