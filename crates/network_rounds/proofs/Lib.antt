@@ -14,3 +14,4 @@ pub mod Facts
 pub mod FactsRise
 pub mod FactsStand
 pub mod Quieting
+pub mod Settled

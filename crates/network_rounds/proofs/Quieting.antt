@@ -106,7 +106,7 @@ joined s i j v w link here there = record { from = i; to = j; here = here; there
 
 module _ (up : LinksComeUp) (steady : RoundsAreSteady) (origins_ahead : OriginsAreAhead) (bridges_agree : BridgesAgree) where
   module _ (d m k : ℕ) (s u : State) (is : IsReached d m k s u) where
-    ids : List LspId
+    abbrev ids : List LspId
     ids = ids_of s
 
     passes : Passes ids u
