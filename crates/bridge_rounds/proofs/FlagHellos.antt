@@ -65,14 +65,14 @@ stays_kept old new n was now with_was with_now =
     kept_at (is_up new.state) (is_up old.state) (same_end (new.neighbour, new.circuit) (old.neighbour, old.circuit)) (is_up old.state && not (is_up new.state)) now was same away
 
 -- nothing but that a hello was heard or discarded
-abbrev IsNoChange : AdjacencyChange → Type 0
+abbrev pub IsNoChange : AdjacencyChange → Type 0
 IsNoChange heard = (heard ≡ Discarded) ⊎ (heard ≡ Kept)
 
 module _ (h : HelloValue) (way : ThreeWay) (q : ℕ) (port : BridgePort) (v : BridgeView) where
-  abbrev Change : AdjacencyChange
+  abbrev pub Change : AdjacencyChange
   Change = change_by_hello v.id.system q h way port.adjacency
 
-  abbrev Next : BridgePort
+  abbrev pub Next : BridgePort
   Next = with_adjacency (after_hello v.id.system q h way port.adjacency) port
 
   no_change_by : (n : End) (b : Bool) → is_up port.adjacency.state ≡ true → neighbour_of port.adjacency ≡ Some n
@@ -83,7 +83,7 @@ module _ (h : HelloValue) (way : ThreeWay) (q : ℕ) (port : BridgePort) (v : Br
   no_change_by n false was with_was now with_now = inr (stays_kept port.adjacency (after_hello_heard h way port.adjacency) n was now with_was with_now)
 
   -- where the port stays so
-  no_change : (n : End) (w : BridgeView) → 1 ≤ q → slice_get v.ports (q - 1) ≡ Some port → w.ports ≡ slice_set v.ports (q - 1) (noted Change Next) → IsUpWith q n v → IsUpWith q n w → IsNoChange Change
+  pub no_change : (n : End) (w : BridgeView) → 1 ≤ q → slice_get v.ports (q - 1) ≡ Some port → w.ports ≡ slice_set v.ports (q - 1) (noted Change Next) → IsUpWith q n v → IsUpWith q n w → IsNoChange Change
   unfolding is_up_at neighbour_at
   no_change n w low is ports before after =
       let was : port_at v q ≡ Some port = rw (le-leb 1 q low) is in

@@ -25,15 +25,6 @@ mail_holds P (f ∷ fs) v keeps was =
 pub mail_keeps : (P : BridgeView → Type 0) (fs : Inbox) (v : BridgeView) → ((p : ℕ) (bytes : List ℕ) (u : BridgeView) → IsSent fs p bytes → P u → P (step (frame p bytes) u)) → P v → P (heard_all fs v)
 mail_keeps P fs v keeps was = (mail_holds P fs v keeps was).1
 
--- what holds throughout holds of the first state and of the last
-pub held_first : (P : BridgeView → Type 0) (fs : Inbox) (v : BridgeView) → HoldsOn P fs v → P v
-held_first P [] v holds = holds
-held_first P (f ∷ fs) v holds = holds.0
-
-pub held_last : (P : BridgeView → Type 0) (fs : Inbox) (v : BridgeView) → HoldsOn P fs v → P (heard_all fs v)
-held_last P [] v holds = holds
-held_last P (f ∷ fs) v holds = held_last P fs (step (frame f.0 f.1) v) holds.1
-
 -- what follows from what holds at each moment, and two things that hold at each
 pub holds_so : (P Q : BridgeView → Type 0) (fs : Inbox) (v : BridgeView) → ((u : BridgeView) → P u → Q u) → HoldsOn P fs v → HoldsOn Q fs v
 holds_so P Q [] v so holds = so v holds

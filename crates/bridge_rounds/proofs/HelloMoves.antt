@@ -1,5 +1,5 @@
 -- One hello at a port moves its adjacency, whatever else comes; without one it stays.
-use Rattle.std.proofs.Common.{◌≡◌, inl, inr, ◌⊎◌, ◌≤◌, ◌<◌, ◌+◌, ◌-◌, ℕ, zero, suc, Bool, true, false, List, [], ◌∷◌, cond, refl, sym, ap, ◌∙◌, subst, Option, Some, None, arith}
+use Rattle.std.proofs.Common.{◌≡◌, inl, inr, ◌⊎◌, ◌≤◌, ◌<◌, ◌+◌, ◌-◌, ℕ, zero, suc, Bool, true, false, List, [], ◌∷◌, cond, refl, sym, ap, ◌∙◌, Option, Some, None, arith}
 use Rattle.std.specs.Prelude.{◌==◌, length, count_by, is_some, slice_index_or, if◌then◌else◌, Contains}
 use Rattle.std.specs.Option.{option_map}
 use Rattle.std.proofs.lemmas.Bool.{eq-eqb, eqb-true, le-leb, true≢false}
@@ -28,7 +28,7 @@ use Rattle.bridge_rounds.specs.Hellos.{OneHelloMoves, NoHelloStands}
 
 -- ---- one hello
 
-abbrev adjacency_in : Option BridgePort → Option Adjacency
+abbrev pub adjacency_in : Option BridgePort → Option Adjacency
 adjacency_in o = option_map (λ port. port.adjacency) o
 
 noted_adjacency : (change : AdjacencyChange) (port : BridgePort) → (noted change port).adjacency ≡ port.adjacency
@@ -62,7 +62,7 @@ module _ (p : ℕ) (bytes : List ℕ) (h : HelloValue) (way : ThreeWay) (is : pa
       ∙ (ap (λ (x : Adjacency). Some x) (noted_adjacency (change_by_hello v.id.system p h way port.adjacency) (with_adjacency (after_hello v.id.system p h way port.adjacency) port))
       ∙ ap (λ (x : Adjacency). Some (after_hello v.id.system p h way x)) same))
 
-  hello_moves : (v : BridgeView) (a : Adjacency) → adjacency_at v p ≡ Some a → a.carrier ≡ true → adjacency_at (step (frame p bytes) v) p ≡ Some (after_hello v.id.system p h way a)
+  pub hello_moves : (v : BridgeView) (a : Adjacency) → adjacency_at v p ≡ Some a → a.carrier ≡ true → adjacency_at (step (frame p bytes) v) p ≡ Some (after_hello v.id.system p h way a)
   unfolding adjacency_at
   hello_moves v a there carrier = moves_by v a (port_at v p) refl there carrier
 

@@ -11,14 +11,14 @@ use Rattle.lsdb.specs.Entry.{Entry}
 use Rattle.lsdb.specs.Database.{version_in, srm_in}
 use Rattle.lsdb.specs.Certificate.{Claim, IsClaimed, Kept, is_flagged, is_absent, is_as_before, is_claimed}
 use Rattle.lsdb.proofs.Certified.{standing}
-use Rattle.bridge_api.specs.View.{BridgeView, up_ports, control_of, is_up_at}
+use Rattle.bridge_api.specs.View.{BridgeView, up_ports, control_of}
 use Rattle.bridge_api.specs.Parsing.{parsed}
 use Rattle.bridge_api.specs.Step.{second, frame, step}
 use Rattle.bridge_api.specs.Laws.{IsSoundView, claims_said}
 use Rattle.bridge_api.proofs.Sound.{steps_stay_sound}
 use Rattle.bridge_api.proofs.UpPorts.{up_ports_are_up}
 use Rattle.bridge_laws.proofs.StepsCarry.{steps_carry_database}
-use Rattle.bridge_rounds.specs.Inbox.{Inbox, heard_all, after_round, claims_at}
+use Rattle.bridge_rounds.specs.Inbox.{Inbox, heard_all, claims_at}
 use Rattle.bridge_rounds.specs.Versions.{KeptAt, PortIsKept, RoundIsKept}
 use Rattle.bridge_rounds.specs.Versions as ends
 use Rattle.bridge_rounds.proofs.Folds.{claim_first, claim_later}

@@ -22,5 +22,8 @@ pub mod FlagAcked
 pub mod LinkFlags
 pub mod FlaggedLsps
 pub mod LinkFrames
+pub mod OwnLives
 pub mod SpentNumbers
 pub mod DueSummaries
+pub mod StayingUp
+pub mod SaysSame

@@ -116,7 +116,7 @@ calm_stands v id was calm =
     }
 
 -- a port that is Up stays so until the bridge sends
-due_up : (o : Option BridgePort) → is_up_in (option_map (with_csnp_due false) o) ≡ is_up_in o
+pub due_up : (o : Option BridgePort) → is_up_in (option_map (with_csnp_due false) o) ≡ is_up_in o
 due_up None = refl
 due_up (Some port) = refl
 
@@ -124,7 +124,7 @@ port_map_by : (b : Bool) (f : BridgePort → BridgePort) (k : ℕ) (ports : List
 port_map_by true f k ports = slice_get-map f ports k
 port_map_by false f k ports = refl
 
-port_map : (f : BridgePort → BridgePort) (k : ℕ) (ports : List BridgePort) → port_in (map f ports) k ≡ option_map f (port_in ports k)
+pub port_map : (f : BridgePort → BridgePort) (k : ℕ) (ports : List BridgePort) → port_in (map f ports) k ≡ option_map f (port_in ports k)
 port_map f k ports = port_map_by (nat_le 1 k) f (k - 1) ports
 
 -- ---- frames at a port
@@ -143,7 +143,7 @@ sent_contains (s ∷ ss) q bytes (inl here) =
     subst (λ (b : List ℕ). Contains (frames_at q (s ∷ ss)) b) here.1 (first_contains (s.0 == q) s.1 (frames_at q ss) (eq-eqb s.0 q here.0))
 sent_contains (s ∷ ss) q bytes (inr there) = later_contains (s.0 == q) s.1 (frames_at q ss) bytes (sent_contains ss q bytes there)
 
-all_at : (P : List ℕ → Type 0) (q : ℕ) (ss : Inbox) → ((bytes : List ℕ) → IsSent ss q bytes → P bytes) → AllByRecursion P (frames_at q ss)
+pub all_at : (P : List ℕ → Type 0) (q : ℕ) (ss : Inbox) → ((bytes : List ℕ) → IsSent ss q bytes → P bytes) → AllByRecursion P (frames_at q ss)
 all_at P q [] each_one = tt
 all_at P q (s ∷ ss) each_one = by (s.0 == q) refl (all_at P q ss (λ bytes some. each_one bytes (inr some)))
   where

@@ -42,11 +42,11 @@ use Rattle.bridge_rounds.specs.Hearing.{LivedAt, keeps, stores, renews, ends, Fr
 
 -- ---- one after another
 
-stood : (lsp : Option LspValue) (id : LspId) (o n : Option Entry) → n ≡ o → LivedAt lsp id o n
+pub stood : (lsp : Option LspValue) (id : LspId) (o n : Option Entry) → n ≡ o → LivedAt lsp id o n
 stood lsp id o n same = keeps (ap version_in same) (ap lifetime_in same)
 
 -- where no LSP came in the second time
-then_lived : (lsp : Option LspValue) (id : LspId) (o m n : Option Entry) → LivedAt lsp id o m → LivedAt None id m n → LivedAt lsp id o n
+pub then_lived : (lsp : Option LspValue) (id : LspId) (o m n : Option Entry) → LivedAt lsp id o m → LivedAt None id m n → LivedAt lsp id o n
 then_lived lsp id o m n (keeps v t) (keeps w u) = keeps (w ∙ v) (u ∙ t)
 then_lived lsp id o m n (stores l is here v t) (keeps w u) = stores l is here (w ∙ v) (u ∙ t)
 then_lived lsp id o m n (renews t) (keeps w u) = renews (u ∙ t)
@@ -56,17 +56,17 @@ then_lived lsp id o m n first (ends gone) = ends gone
 then_lived lsp id o m n first (stores l none here w u) = absurd cc
 
 -- an entry of which neither version nor lifetime is changed
-abbrev LeavesLife : (Entry → Entry) → Type 0
+abbrev pub LeavesLife : (Entry → Entry) → Type 0
 LeavesLife f = (e : Entry) → ((f e).version ≡ e.version) × ((f e).lifetime ≡ e.lifetime)
 
-mapped_lived : (lsp : Option LspValue) (id : LspId) (f : Entry → Entry) (o : Option Entry) → LeavesLife f → LivedAt lsp id o (option_map f o)
+pub mapped_lived : (lsp : Option LspValue) (id : LspId) (f : Entry → Entry) (o : Option Entry) → LeavesLife f → LivedAt lsp id o (option_map f o)
 mapped_lived lsp id f None leaves = keeps refl refl
 mapped_lived lsp id f (Some e) leaves = let same = leaves e in keeps same.0 same.1
 
 each_lived : (lsp : Option LspValue) (f : LspId → Entry → Entry) (db : Lsps) (id : LspId) → LeavesLife (f id) → LivedAt lsp id (get db id) (get (each f db) id)
 each_lived lsp f db id leaves = subst (LivedAt lsp id (get db id)) (sym (get-each f db id)) (mapped_lived lsp id (f id) (get db id) leaves)
 
-spared_leaves : (f : Entry → Entry) (e : Entry) (b : Bool) → LeavesLife f → ((if b then e else f e).version ≡ e.version) × ((if b then e else f e).lifetime ≡ e.lifetime)
+pub spared_leaves : (f : Entry → Entry) (e : Entry) (b : Bool) → LeavesLife f → ((if b then e else f e).version ≡ e.version) × ((if b then e else f e).lifetime ≡ e.lifetime)
 spared_leaves f e true leaves = (refl, refl)
 spared_leaves f e false leaves = leaves e
 
@@ -105,7 +105,7 @@ answer_at : (lsp : Option LspValue) (up : PortSet) (x id : LspId) (seq : ℕ) (h
 answer_at lsp up x id seq held body true = renews refl
 answer_at lsp up x id seq held body false = ends refl
 
-answer_lived : (lsp : Option LspValue) (up : PortSet) (x id : LspId) (seq : ℕ) (held : Option Entry) (o : Option (List ℕ)) → LivedAt lsp x held (Some (answered_by up id seq o))
+pub answer_lived : (lsp : Option LspValue) (up : PortSet) (x id : LspId) (seq : ℕ) (held : Option Entry) (o : Option (List ℕ)) → LivedAt lsp x held (Some (answered_by up id seq o))
 answer_lived lsp up x id seq held None = ends refl
 answer_lived lsp up x id seq held (Some body) = answer_at lsp up x id seq held body (nat_lt seq last_number)
 
@@ -160,7 +160,7 @@ brought_lived up number h x =
     (λ body fresh has. put_lived h.db id x (next_entry up id body seq held) (λ old. next_lived up id x body seq held old (nat_lt seq last_number)))
     (λ s sum live. purged_lived h.db up s id x held)
 
-originated_lived : (w : BridgeView) (id : LspId) → LivedAt None id (get w.database id) (get (originated_if_changed w).database id)
+pub originated_lived : (w : BridgeView) (id : LspId) → LivedAt None id (get w.database id) (get (originated_if_changed w).database id)
 unfolding originated_if_changed
 originated_lived w id =
     settling_keeps (λ g. LivedAt None id (get w.database id) (get g.db id)) says (up_ports w) (holding_of w)

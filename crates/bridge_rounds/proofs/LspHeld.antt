@@ -49,7 +49,7 @@ mail_rises v fs id was =
 
 -- ---- an LSP at a port that is Up
 
-up_carrier : (s : AdjState) (a : Adjacency) → is_up s ≡ true → SoundIn s a → a.carrier ≡ true
+pub up_carrier : (s : AdjState) (a : Adjacency) → is_up s ≡ true → SoundIn s a → a.carrier ≡ true
 up_carrier Down a up sound = absurd cc
 up_carrier Initializing a up sound = absurd cc
 up_carrier Up a up sound = sound.1

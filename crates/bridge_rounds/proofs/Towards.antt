@@ -1,5 +1,5 @@
 -- What a hello of the only end that may be kept at a port makes of the adjacency there.
-use Rattle.std.proofs.Common.{◌≡◌, ◌≢◌, ℕ, Bool, true, false, refl, sym, ap, ◌∙◌, subst, Option, Some, None}
+use Rattle.std.proofs.Common.{◌≡◌, ℕ, Bool, true, false, refl, sym, ap, ◌∙◌, subst, Option, Some, None}
 use Rattle.std.specs.Prelude.{◌==◌, ◌||◌, not, if◌then◌else◌}
 use Rattle.std.proofs.lemmas.Bool.{true≢false}
 use Rattle.spb_types.specs.declared.address.SystemId.{SystemId}
@@ -11,7 +11,7 @@ use Rattle.adjacency.specs.declared.state.AdjState.TheVariants.{Down, Initializi
 use Rattle.adjacency.specs.declared.port.Adjacency.{Adjacency}
 use Rattle.adjacency.specs.Hearing.{End, same_end, has_level_one, names_another, is_discarded, sender}
 use Rattle.adjacency.specs.States.{state_numbered, next_state}
-use Rattle.adjacency.specs.Adjacency.{kept_in, neighbour_of, is_down, down, state_towards, led_to, after_hello_heard, after_hello}
+use Rattle.adjacency.specs.Adjacency.{kept_in, down, state_towards, led_to, after_hello_heard, after_hello}
 use Rattle.adjacency.proofs.Refreshing.{same_end_refl}
 use Rattle.bridge_laws.proofs.Learning.{other_system}
 use Rattle.bridge_rounds.specs.Hellos.{IsHelloTowards, IsKeptFresh, TowardsKept}
@@ -42,7 +42,7 @@ names_none me p None named = refl
 names_none me p (Some n) named = ap not (ap (λ (x : End). same_end x (me, p)) (named n refl) ∙ same_end_refl (me, p))
 
 module _ (me : SystemId) (p : ℕ) (h : HelloValue) (way : ThreeWay) (a : Adjacency) (towards : IsHelloTowards me p h way a) where
-  heeded : is_discarded me p h way ≡ false
+  pub heeded : is_discarded me p h way ≡ false
   heeded =
       ap (λ (n : ℕ). not (has_level_one n) || same_system h.source me || names_another (me, p) way.neighbour) towards.level
       ∙ (ap (λ (b : Bool). b || names_another (me, p) way.neighbour) (other_system h.source me towards.apart)

@@ -5,5 +5,6 @@ pub mod Hellos
 pub mod Versions
 pub mod Seconds
 pub mod Hearing
+pub mod Staying
 pub mod LinkFlags
 pub mod LinkFrames

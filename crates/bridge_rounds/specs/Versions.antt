@@ -19,7 +19,8 @@ use Rattle.bridge_api.specs.Parsing.{parsed}
 use Rattle.bridge_api.specs.Parsing as parsing
 use Rattle.bridge_api.specs.Step.{frames_at}
 use Rattle.bridge_api.specs.Laws.{IsSoundView}
-use Rattle.bridge_rounds.specs.Inbox.{Inbox, heard_all, after_round, claims_at, StaysUp, SaysTheSameOn, IsMail, HoldsWithin}
+use Rattle.bridge_rounds.specs.Inbox.{Inbox, heard_all, after_round, claims_at, StaysUp, SaysTheSameOn}
+use Rattle.bridge_rounds.specs.Inbox.{IsMail, HoldsWithin}
 
 -- no version falls
 abbrev pub MailRises : Type 0

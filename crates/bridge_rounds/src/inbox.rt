@@ -1,6 +1,7 @@
 //! What holds after all frames of a round. Each law is the contract of a function that does nothing.
 ghost use Rattle.bridge_rounds.specs.Mail.{MailIsSound, MailKeepsBridge, MailHoldsWithin, MailFits};
 ghost use Rattle.bridge_rounds.specs.Hellos.{OneHelloMoves, NoHelloStands, TowardsKept};
+ghost use Rattle.bridge_rounds.specs.Staying.{PortStaysUp, BridgeSaysTheSame};
 ghost use Rattle.bridge_rounds.specs.Versions.{MailRises, AtMostStands, LspIsHeld, VersionsComeFrom, PortIsKept, RoundIsKept};
 
 /// Whatever frames come, a sound bridge is sound after each of them, and the same bridge after all. If it holds LSPs of
@@ -35,4 +36,11 @@ pub fn versions_come_by_claims()
 pub fn neighbours_keep_up()
     ensures frames { PortIsKept }
     ensures round { RoundIsKept }
+{}
+
+/// A port that is Up stays so with its neighbour while each hello that comes there keeps it. And where each port with
+/// carrier stays Up, the bridge has the same to say.
+pub fn ports_stay_up()
+    ensures up { PortStaysUp }
+    ensures says { BridgeSaysTheSame }
 {}

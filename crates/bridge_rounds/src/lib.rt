@@ -9,7 +9,7 @@ pub use hearing::{
     control_is_silent, frames_are_silent, frames_keep_living, rounds_hold_ids, spent_stays,
 };
 pub use inbox::{
-    bridges_last_through_rounds, hellos_move_adjacencies, neighbours_keep_up,
+    bridges_last_through_rounds, hellos_move_adjacencies, neighbours_keep_up, ports_stay_up,
     versions_come_by_claims,
 };
 pub use links::{links_fall_silent, links_tell_what_is_held};

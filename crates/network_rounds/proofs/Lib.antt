@@ -15,3 +15,7 @@ pub mod FactsRise
 pub mod FactsStand
 pub mod Quieting
 pub mod Settled
+pub mod Ends
+pub mod Lasting
+pub mod Undue
+pub mod SteadyRounds
