@@ -1,9 +1,8 @@
 -- What the versions that bridges hold do in a steady round: six facts, each proved in a file of its own; and what they
 -- all rest on.
-use Rattle.std.proofs.Common.{◌≡◌, ◌⊎◌, inl, inr, ℕ, ◌≤◌, Bool, true, false, List, [], ◌∷◌, refl, sym, ap, ◌∙◌, subst, Option, Some, None, slice_get, arith}
+use Rattle.std.proofs.Common.{◌≡◌, ◌⊎◌, inl, inr, ℕ, Bool, true, false, List, [], refl, sym, ap, ◌∙◌, subst, Option, Some, None, slice_get, arith}
 use Rattle.std.specs.Prelude.{if◌then◌else◌}
 use Rattle.std.specs.Option.{option_map, option_map_or}
-use Rattle.std.specs.FinMap.{get}
 use Rattle.std.proofs.lemmas.Option.{same_Some}
 use Rattle.spb_types.specs.declared.address.LspId.{LspId}
 use Rattle.spb_types.specs.declared.link.Dir.{Dir}
@@ -38,10 +37,9 @@ use Rattle.network_model.specs.Counted.{IsCountedBy}
 use Rattle.network_model.specs.Truth.{AreLinked}
 use Rattle.network_model.proofs.BridgeLaws.{sent_is_sound}
 use Rattle.network_model.proofs.FitsLemmas.{far_is_port}
-use Rattle.network_model.proofs.Linked.{far_view}
 use Rattle.network_model.proofs.SoundLane.{named}
 use Rattle.network_rounds.specs.Rounds.{IsHeardRound}
-use Rattle.network_rounds.specs.Steady.{inbox_of, IsKeptUp, IsSteadyState, IsSteadyFor, IsSteadyRound}
+use Rattle.network_rounds.specs.Steady.{inbox_of, IsKeptUp, IsSteadyState, IsSteadyRound}
 use Rattle.network_rounds.proofs.Coming.{ComesOver, each_comes, of_each, in_ticked}
 use Rattle.network_rounds.proofs.Lanes.{lane_ticked}
 use Rattle.network_rounds.proofs.Passing.{near_view}
@@ -88,6 +86,11 @@ kept_up_in (Some port) a at up = ap (λ (x : Adjacency). is_up x.state) (same_So
 pub kept_up : (v : BridgeView) (p : ℕ) (end : End) → IsKeptUp v p end → is_up_at v p ≡ true
 unfolding is_up_at adjacency_at
 kept_up v p end is = kept_up_in (port_at v p) is.adjacency is.there is.up
+
+-- ---- what a bridge holds under an id
+
+version_held : (w : BridgeView) (id : LspId) (a : Version) → IsHeldAt w id a → a ≡ version_at w.database id
+version_held w id a held = held.2 ∙ ap version_in (sym held.1)
 
 module _ (ids : List LspId) (m allowance : ℕ) (s t : State) (one : IsSteadyStep ids m allowance s t) where
   -- ---- before and after
@@ -155,5 +158,5 @@ module _ (ids : List LspId) (m allowance : ℕ) (s t : State) (one : IsSteadySte
       record {
         place = place;
         link = record { place = c.place; dir = c.dir; link = c.link; there = c.there; live = live; near = refl; far = c.bridge };
-        is = held.2 ∙ (ap version_in (sym held.1) ∙ held_second place u id near.1);
+        is = version_held (step second u) id a held ∙ held_second place u id near.1;
       }

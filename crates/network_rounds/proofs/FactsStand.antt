@@ -23,8 +23,8 @@ module _ (ids : List LspId) (m allowance : ℕ) (s t : State) (one : IsSteadySte
           let now = held_second ids m allowance s t one i v id at in
           held_after ids m allowance s t one i v id at
           ∙ (at_most_stands (step second v) (inbox_of s i) id (steps_stay_sound second v tt (sound_at ids m allowance s t one i v at)) (one.round.bridges i v at).says
-            (λ a claimed.
-              let beside : IsHeldBeside s i id a = claim_is_held ids m allowance s t one i v id a at claimed in
-              subst (λ (b : Version). IsAtMost b (version_at (step second v).database id)) (sym beside.is)
-              (subst (IsAtMost (held_at s beside.place id)) (sym now) (low beside.place beside.link)))
+          (λ a claimed.
+          let beside : IsHeldBeside s i id a = claim_is_held ids m allowance s t one i v id a at claimed in
+          subst (λ (b : Version). IsAtMost b (version_at (step second v).database id)) (sym beside.is)
+          (subst (IsAtMost (held_at s beside.place id)) (sym now) (low beside.place beside.link)))
           ∙ now)

@@ -15,6 +15,10 @@ pub mod FactsRise
 pub mod FactsStand
 pub mod Quieting
 pub mod Settled
+pub mod FactsPush
+pub mod FactsCome
+pub mod Sequence
+pub mod Agreed
 pub mod Ends
 pub mod Lasting
 pub mod Undue
