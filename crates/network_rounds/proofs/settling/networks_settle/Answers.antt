@@ -5,7 +5,7 @@ use Rattle.network_rounds.proofs.Settled.{commands_settle, networks_settle, play
 use Rattle.network_rounds.proofs.settling.networks_settle.Goals as goal
 
 settle : goal.After-control_again → RoundsSettle
-settle c = rounds_settle ? ? ? ? (flags_fall c.control_again.ensures)
+settle c = rounds_settle (flags_fall c.control_again.ensures)
 
 pub returns-clause-command : goal.returns-clause-command
 returns-clause-command c = commands_settle (settle c)
