@@ -42,7 +42,7 @@ facts_of ids m allowance s t one = record {
 
 -- ---- what is declared stays so
 
-world_on : (ids : List LspId) (k : ℕ) (s t : State) → AreRounds k s t → Passes ids s → t.world ≡ s.world
+pub world_on : (ids : List LspId) (k : ℕ) (s t : State) → AreRounds k s t → Passes ids s → t.world ≡ s.world
 world_on ids zero s t are was = are.0
 world_on ids (suc k) s t are was =
     world_on ids k are.0 t are.2 (passes_round ids s are.0 was are.1).0 ∙ (heard_round s are.0 was.sound was.plain are.1).world

@@ -107,7 +107,7 @@ link_live [] k l at live = absurd cc
 link_live (h ∷ links) zero l at live = let same : h ≡ l = cc in ap (λ (m : DeclaredLink). m.live) (sym same) ∙ live
 link_live (h ∷ links) (suc k) l at live = link_live links k l at live
 
-is_port : (x : BridgeView) (p : ℕ) (port : BridgePort) → port_at x p ≡ Some port → IsPort x p
+pub is_port : (x : BridgeView) (p : ℕ) (port : BridgePort) → port_at x p ≡ Some port → IsPort x p
 is_port x p port there =
     let at = found x.ports p port there in
     let within = slice_get_within x.ports (p - 1) port at.1 in

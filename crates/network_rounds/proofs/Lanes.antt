@@ -74,17 +74,11 @@ module _ (k : ℕ) (dir : Dir) (l : DeclaredLink) (v : BridgeView) where
           more stays (omega (arith, low, apart)) (omega (arith, high))
           ∙ ap (λ (lane : List Frame). pushed_all lane (if l.live then frames_at (near_end dir l).port (sent second v) else [])) (stepped_beside second s i k dir l there (λ same. apart (sym same)))
 
--- what a lane holds after all ticks: what it held, and then what the bridge at its near end sent
-pub lane_ticked : (s : State) (k : ℕ) (dir : Dir) (l : DeclaredLink) (v : BridgeView) → IsSoundState s → slice_get (links_of s) k ≡ Some l → slice_get s.views (near_end dir l).bridge ≡ Some v
-    → lane_of (all_ticked s).lanes k dir ≡ pushed_all (lane_of s.lanes k dir) (if l.live then frames_at (near_end dir l).port (sent second v) else [])
-lane_ticked s k dir l v sound there at =
-    let within : (near_end dir l).bridge < length s.views = is_within s.views (near_end dir l).bridge v at in
-    ticks_over k dir l v (length s.views) 0 s sound there at (omega arith) (omega (arith, within))
-
 pub lanes_hold_what_is_sent : LanesHoldWhatIsSent
 lanes_hold_what_is_sent s k dir l v sound none there live at room =
+    let within : (near_end dir l).bridge < length s.views = is_within s.views (near_end dir l).bridge v at in
     let frames : List Frame = frames_at (near_end dir l).port (sent second v) in
-    lane_ticked s k dir l v sound there at
+    ticks_over k dir l v (length s.views) 0 s sound there at (omega arith) (omega (arith, within))
     ∙ (ap (λ (lane : List Frame). pushed_all lane (if l.live then frames else [])) (none k dir)
     ∙ (ap (λ (b : Bool). pushed_all [] (if b then frames else [])) live
     ∙ pushed_fits [] frames (omega (arith, room))))

@@ -13,6 +13,8 @@ pub mod Passing
 pub mod Facts
 pub mod FactsRise
 pub mod FactsStand
+pub mod Quieting
+pub mod Settled
 pub mod FactsPush
 pub mod FactsCome
 pub mod Sequence

@@ -6,3 +6,4 @@ pub mod Settling
 pub mod Flags
 pub mod Steady
 pub mod Agreement
+pub mod SettlingLaws
