@@ -9,12 +9,14 @@ ghost use Rattle.spb_network.specs.Watching.{Watches, noted};
 ghost use Rattle.network_model.specs.Captured.{seen_of};
 ghost use Rattle.network_model.specs.Counted.{most_commands};
 ghost use Rattle.network_model.specs.Convergence.{QuietIsConverged};
+ghost use Rattle.network_rounds.specs.SettlingLaws.{Settles};
 
 use crate::seen::Seen;
 use crate::{Answer, ApplyError, Delivered, KindRule, Out, World};
 use bridge_api::Bridge;
 use link_model::Lanes;
 use network_model::Conditions;
+use network_rounds::networks_settle;
 use scenario::Command;
 use spb_types::NoMemory;
 use std::alloc::Global;
@@ -103,7 +105,9 @@ impl<B: Bridge> NetworkOf<B> {
     /// `Halted` exactly where an earlier command found no memory, and `Refused` with the first reason that holds
     /// exactly where one does. After both nothing is changed, and no memory was taken. After `NoMemory` the network is
     /// halted, and nothing is said of its boxes and lanes. Where a command was accepted, one of the first 120,000, and
-    /// the network is quiet after it, it is converged: every bridge has its part of the wiring right.
+    /// the network is quiet after it, it is converged: every bridge has its part of the wiring right. And a `round` of
+    /// 2(n - 1) + 6 to 4n + 16 rounds, n being the number of bridges, ends in quiet where the network was ready for
+    /// 4n + 16 of them.
     ///
     /// Every form is played. An event answers the customers' frames that left by it, in order; they are handed over and
     /// not copied, and none of them is answered again.
@@ -113,6 +117,8 @@ impl<B: Bridge> NetworkOf<B> {
         ensures ready { IsReady B.shown self.new }
         ensures quiet { OnOk result ((state_of B.shown self.new).accepted ≤ most_commands →
             QuietIsConverged (state_of B.shown self.new)) }
+        ensures settles { OnOk result ((state_of B.shown self.old).accepted ≤ most_commands →
+            Settles (state_of B.shown self.old) command.now (state_of B.shown self.new)) }
     {
         self.apply_noting(command, &mut Seen::unwatched(self.alloc))
     }
@@ -133,6 +139,8 @@ impl<B: Bridge> NetworkOf<B> {
         ensures ready { IsReady B.shown self.new }
         ensures quiet { OnOk result ((state_of B.shown self.new).accepted ≤ most_commands →
             QuietIsConverged (state_of B.shown self.new)) }
+        ensures settles { OnOk result ((state_of B.shown self.old).accepted ≤ most_commands →
+            Settles (state_of B.shown self.old) command.now (state_of B.shown self.new)) }
     {
         let mut now = Seen::watched(self.alloc);
         let answer = self.apply_noting(command, &mut now)?;
@@ -152,6 +160,8 @@ impl<B: Bridge> NetworkOf<B> {
         ensures ready { IsReady B.shown self.new }
         ensures quiet { OnOk result ((state_of B.shown self.new).accepted ≤ most_commands →
             QuietIsConverged (state_of B.shown self.new)) }
+        ensures settles { OnOk result ((state_of B.shown self.old).accepted ≤ most_commands →
+            Settles (state_of B.shown self.old) command.now (state_of B.shown self.new)) }
         ensures seen { OnOk result (seen.new ≡ noted seen.old (seen_of (state_of B.shown self.old) command.now)) }
     {
         if self.halted {
@@ -161,6 +171,7 @@ impl<B: Bridge> NetworkOf<B> {
             Some(reason) => Err(ApplyError::Refused(reason)),
             None => match self.play(command, seen) {
                 Ok(answer) => {
+                    networks_settle();
                     self.accepted = self.accepted.saturating_add(1);
                     self.halted = false;
                     Ok(answer)

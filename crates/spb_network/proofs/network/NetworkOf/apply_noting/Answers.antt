@@ -9,6 +9,7 @@ use Rattle.network_model.specs.Convergence.{QuietIsConverged}
 use Rattle.network_model.proofs.SoundPlay.{commands_keep_sound}
 use Rattle.network_model.proofs.CountedStays.{stays_counted}
 use Rattle.network_model.proofs.Convergence.{next_is_converged}
+use Rattle.network_rounds.specs.SettlingLaws.{Settles}
 use Rattle.spb_network.proofs.Keeping.{counted_conditions}
 use Rattle.spb_network.proofs.network.NetworkOf.apply_noting.Goals as goal
 
@@ -55,3 +56,13 @@ returns-in-Ok-clause-quiet g c =
     let accepted : refusal_of old c.args.command.now ≡ None = sym c.refusal.ensures ∙ c.in-None.is in
     let same = (λ i. record made { accepted = c.saturating_add-self.ensures i }) ∙ ap (λ (t : State). record t { accepted = next_count t.accepted }) c.in-Ok.ensures.state in
     subst (λ (t : State). t.accepted ≤ most_commands → QuietIsConverged t) (sym same) (next_is_converged old c.args.command.now sound few accepted)
+
+pub returns-in-Ok-clause-settles : goal.returns-in-Ok-clause-settles
+unfolding next_state
+returns-in-Ok-clause-settles g c =
+    let old : State = state_of g.B.Bridge.shown c.args.self.now in
+    let made : State = state_of g.B.Bridge.shown c.play.new.self in
+    let sound : IsSoundState old = ⊎_elim (λ h. absurd (true≢false (sym h ∙ c.if-self.false))) (λ n. n.state) c.requires in
+    let few : old.accepted ≤ most_commands → IsCounted old = ⊎_elim (λ h. absurd (true≢false (sym h ∙ c.if-self.false))) (λ n. n.counted) c.requires in
+    let same = (λ i. record made { accepted = c.saturating_add-self.ensures i }) ∙ ap (λ (t : State). record t { accepted = next_count t.accepted }) c.in-Ok.ensures.state in
+    λ within. subst (λ (t : State). Settles old c.args.command.now t) (sym same) (c.networks_settle.ensures.command old c.args.command.now sound (few within) within)
