@@ -1,5 +1,5 @@
 -- A network that is ready and isn't quiet: two bridges, whose link has just come up.
-use Rattle.std.proofs.Common.{◌≡◌, ℕ, zero, suc, ◌+◌, ◌*◌, ◌≤◌, Bool, true, false, true≢false, List, [], ◌∷◌, ◌++◌, length, map, length-append, nat_lt, refl, sym, ap, ◌∙◌, subst, Option, Some, None, slice_get, if◌then◌else◌, arith}
+use Rattle.std.proofs.Common.{◌≡◌, ℕ, suc, ◌+◌, ◌≤◌, Bool, true, false, true≢false, List, [], ◌∷◌, ◌++◌, length, map, length-append, nat_lt, refl, sym, ap, ◌∙◌, subst, Option, Some, None, if◌then◌else◌, arith}
 use Rattle.std.specs.Prelude.{◌<◌, ◌&&◌, slice_set}
 use Rattle.std.specs.List.{list_all}
 use Rattle.std.proofs.lemmas.List.{length-map}
@@ -37,7 +37,6 @@ use Rattle.bridge_api.specs.Step.{carrier, metric, step}
 use Rattle.bridge_api.specs.View.{BridgeView, port_in, port_at, with_port_at, is_up_in, is_up_at, up_ports}
 use Rattle.bridge_api.proofs.Configured.{long_first}
 use Rattle.bridge_laws.proofs.FewHeld.{steps_bring_few}
-use Rattle.scenario.specs.declared.command.Command.{Command}
 use Rattle.spb_world.specs.Declaring.{vid_refusal, plan_of, bridge_of, with_vid, with_bridge, with_link, with_live}
 use Rattle.spb_world.specs.Links.{is_live, lane_out}
 use Rattle.spb_world.specs.World.{World}
@@ -54,7 +53,7 @@ use Rattle.network_model.proofs.QuietLists.{nil_of, both_true, from_first, all_o
 use Rattle.network_model.proofs.SoundConfigured.{configured_ports, with_metric_port, with_first_carrier, first_port, first_ports}
 use Rattle.network_model.proofs.SoundMet.{config}
 use Rattle.network_model.proofs.SoundWitness.{source, declaring}
-use Rattle.network_rounds.specs.Premises.{ids_of, ids_held, different_ids, outlives, entry_outlives, own_outlives, holds_only, has_no_customers, outlive, owns_outlive, has_few_ids, is_ready}
+use Rattle.network_rounds.specs.Premises.{ids_of, different_ids, outlives, entry_outlives, own_outlives, holds_only, has_no_customers, outlive, owns_outlive, has_few_ids, is_ready}
 use Rattle.network_rounds.specs.Settling.{most_settling}
 use Rattle.network_rounds.specs.SettlingLaws.{SomeNetworkSettles}
 
