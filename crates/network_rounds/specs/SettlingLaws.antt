@@ -56,8 +56,8 @@ NetworksSettle = (s : State) → IsSoundState s → IsCounted s → s.accepted �
 abbrev pub PlayedNetworksSettle : Type 0
 PlayedNetworksSettle = ForAllPlayedWithin most_commands SettlesInTime
 
--- some commands, no more than are counted, lead to a network in which a link is up, which isn't quiet, and which is ready
--- for all rounds that settling is given
+-- some commands, no more than are counted, lead to a network in which a link is up, which isn't quiet, and which is
+-- ready for all rounds that settling is given
 pub record SomeNetworkSettles : Type 0 where
   pub scene : Scene
   pub few : length scene.commands ≤ most_commands
