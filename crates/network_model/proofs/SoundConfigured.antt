@@ -47,7 +47,7 @@ refreshed_ports : (v : BridgeView) → (refreshed v).ports ≡ v.ports
 unfolding refreshed
 refreshed_ports v = refl
 
-configured_ports : (c : BridgeConfig) → (configured c).ports ≡ map port_without_carrier c.metrics
+pub configured_ports : (c : BridgeConfig) → (configured c).ports ≡ map port_without_carrier c.metrics
 unfolding configured
 configured_ports c = begun_ports c.last (bare c)
   where
@@ -59,7 +59,7 @@ abbrev pub first_port : ℕ → BridgePort
 first_port m = record { adjacency = down true; csnp_due = false; metric = m }
 
 -- the only port gets a metric, and then carrier
-with_metric_port : (v : BridgeView) (m n : ℕ) → v.ports ≡ port_without_carrier m ∷ [] → (with_metric 1 n v).ports ≡ port_without_carrier n ∷ []
+pub with_metric_port : (v : BridgeView) (m n : ℕ) → v.ports ≡ port_without_carrier m ∷ [] → (with_metric 1 n v).ports ≡ port_without_carrier n ∷ []
 unfolding with_metric
 with_metric_port v m n is =
     ap (λ (ports : List BridgePort). (with_metric_at 1 n (port_in ports 1) v).ports) is

@@ -23,3 +23,4 @@ pub mod Ends
 pub mod Lasting
 pub mod Undue
 pub mod SteadyRounds
+pub mod SettlingWitness

@@ -1,25 +1,22 @@
 -- A network that was ready is quiet after 2d + 6 rounds: between bridges that agree, the last three of them leave no
 -- flag.
-use Rattle.std.proofs.Common.{◌≡◌, ◌≢◌, ℕ, zero, suc, ◌+◌, ◌-◌, ◌*◌, ◌<◌, ◌≤◌, Bool, true, false, true≢false, List, [], ◌∷◌, length, refl, sym, ap, ◌∙◌, subst, Option, Some, None, slice_get, arith}
+use Rattle.std.proofs.Common.{◌≡◌, ◌≢◌, ℕ, zero, suc, ◌+◌, ◌-◌, ◌*◌, ◌≤◌, Bool, true, false, true≢false, List, [], ◌∷◌, length, refl, sym, ap, ◌∙◌, subst, Option, Some, slice_get, arith}
 use Rattle.std.specs.Option.{option_map_or}
-use Rattle.std.specs.List.{AllByRecursion}
-use Rattle.itag_frames.specs.Classify.{ControlAgain}
 use Rattle.spb_types.specs.declared.address.LspId.{LspId}
 use Rattle.spb_types.specs.declared.link.Dir.{Dir}
 use Rattle.spb_types.specs.declared.link.Dir.TheVariants.{Ab, Ba}
-use Rattle.lsdb.specs.declared.version.Version.{Version}
 use Rattle.lsdb.specs.declared.version.Version.TheVariants.{Absent}
 use Rattle.lsdb.specs.Version.{IsAtMost}
 use Rattle.lsdb.specs.Database.{version_at}
 use Rattle.lsdb.proofs.Order.{itself}
 use Rattle.bridge_api.specs.View.{BridgeView, is_up_at, has_carrier_at}
-use Rattle.bridge_api.specs.Step.{second, step}
+use Rattle.bridge_api.specs.Step.{second}
 use Rattle.bridge_api.specs.Laws.{IsSoundView}
 use Rattle.bridge_api.proofs.Sound.{steps_stay_sound}
 use Rattle.bridge_rounds.specs.LinkFrames.{ComesOver}
 use Rattle.bridge_rounds.proofs.FlagSteps.{IsUpPort, up_port}
 use Rattle.spb_world.specs.declared.declaration.DeclaredLink.{DeclaredLink}
-use Rattle.spb_world.specs.World.{World, IsLink, things_of}
+use Rattle.spb_world.specs.World.{World, things_of}
 use Rattle.spb_world.specs.Links.{near_end, far_end}
 use Rattle.spb_world.proofs.BoxLemmas.{All-get}
 use Rattle.network_model.specs.State.{State, links_of}
@@ -31,7 +28,6 @@ use Rattle.network_model.proofs.FitsLemmas.{link_there}
 use Rattle.network_model.proofs.Linked.{far_view}
 use Rattle.network_model.proofs.QuietLaws.{quiet_says}
 use Rattle.network_model.proofs.SoundLaws.{without_carrier}
-use Rattle.network_rounds.specs.Premises.{most_ids}
 use Rattle.network_rounds.specs.Rounds.{IsHeardRound, IsRoundOf, AreRounds}
 use Rattle.network_rounds.specs.Near.{AreNear}
 use Rattle.network_rounds.specs.Steady.{IsReadyFor, ids_of, inbox_of, HaveNoneDue, IsSteadyState, IsSteadyFor, IsSteadyOver, IsSteadyRound}
@@ -39,12 +35,12 @@ use Rattle.network_rounds.specs.Agreement.{IsReached, OriginsAreAhead, BridgesAg
 use Rattle.network_rounds.specs.Flags.{NeighboursAgree, NeighboursAreBehind, AllHearOfFew, VersionsStand, IsWholeRound, FallSilent, FlagsFall}
 use Rattle.network_rounds.specs.SettlingLaws.{RoundsSettle}
 use Rattle.network_rounds.proofs.Agreed.{world_on, origins_are_ahead, bridges_agree}
-use Rattle.network_rounds.proofs.Along.{AreSame, rounds_have_last, rounds_stay_counted, rounds_stay_sound, round_same, round_sound}
+use Rattle.network_rounds.proofs.Along.{AreSame, rounds_have_last, rounds_stay_counted, round_same}
 use Rattle.network_rounds.proofs.Chain.{linked_back}
 use Rattle.network_rounds.proofs.Facts.{held_at, kept_up}
 use Rattle.network_rounds.proofs.FactsStand.{stands}
 use Rattle.network_rounds.proofs.Flagged.{is_port}
-use Rattle.network_rounds.proofs.Passing.{Passes, near_view, heard_round, passes_round, passes_all, starts_passing, second_only, mail_of}
+use Rattle.network_rounds.proofs.Passing.{Passes, near_view, heard_round, passes_all, starts_passing, second_only, mail_of}
 use Rattle.network_rounds.proofs.Start.{starts_few}
 use Rattle.network_rounds.proofs.SteadyRounds.{links_come_up, rounds_are_steady}
 
@@ -189,7 +185,7 @@ module _ (d m k : ℕ) (s u : State) (is : IsReached d m k s u) where
           let held : held_at u i id ≡ version_at v.database id = ap (λ (o : Option BridgeView). option_map_or (λ v. version_at v.database id) o Absent) at in
           sym (ap (λ (o : Option BridgeView). option_map_or (λ v. version_at v.database id) o Absent) at_next)
           ∙ (stands ids (m - k) (is.ready.allowance + 128 * k) u t (record { state = state; round = calm_round; heard = heard; counted = counted }) i id
-            (λ j link. beside j link held)
+          (λ j link. beside j link held)
           ∙ held)
         where
           beside : (j : ℕ) → AreLinked (links_of u) j i → held_at u i id ≡ version_at v.database id → IsAtMost (held_at u j id) (held_at u i id)

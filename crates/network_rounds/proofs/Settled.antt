@@ -1,15 +1,13 @@
 -- Settling ends in quiet, since single rounds are made until there is quiet, and enough of them are given.
-use Rattle.std.proofs.Common.{◌≡◌, ℕ, zero, suc, ◌+◌, ◌*◌, ◌-◌, ◌<◌, ◌≤◌, Bool, true, false, length, refl, sym, ap, ◌∙◌, subst, arith}
+use Rattle.std.proofs.Common.{◌≡◌, ℕ, zero, suc, ◌-◌, ◌≤◌, Bool, true, false, length, refl, sym, ap, ◌∙◌, subst, arith}
 use Rattle.std.specs.Prelude.{replicate, if◌then◌else◌}
 use Rattle.scenario.specs.declared.command.Command.{Command}
 use Rattle.scenario.specs.declared.command.Command.TheVariants as command
-use Rattle.spb_types.specs.declared.limits.TheConstants.{MOST_ROUNDS}
-use Rattle.flooding.specs.Own.{last_number}
 use Rattle.network_model.specs.State.{State}
 use Rattle.network_model.specs.Play.{next_state, played_all}
 use Rattle.network_model.specs.Questions.{is_quiet}
 use Rattle.network_model.specs.Sound.{IsSoundState}
-use Rattle.network_model.specs.SoundLaws.{Scene, state_after, opening_of}
+use Rattle.network_model.specs.SoundLaws.{state_after, opening_of}
 use Rattle.network_model.specs.Counted.{IsCounted, allowance_of, most_commands}
 use Rattle.network_model.specs.Quiet.{IsQuiet, failing}
 use Rattle.network_model.proofs.CountedPlay.{opening_counted, all_counted}
@@ -18,9 +16,8 @@ use Rattle.network_model.proofs.SoundPlay.{opening_sound, networks_are_sound}
 use Rattle.network_rounds.specs.Premises.{is_ready}
 use Rattle.network_rounds.specs.Rounds.{AreRounds}
 use Rattle.network_rounds.specs.Settling.{most_settling, rounds_made, settled}
-use Rattle.network_rounds.specs.Steady.{IsReadyFor}
 use Rattle.network_rounds.specs.Agreement.{IsReached}
-use Rattle.network_rounds.specs.SettlingLaws.{RoundsSettle, enough_for, Settles, CommandsSettle, SettlesInTime, NetworksSettle, PlayedNetworksSettle}
+use Rattle.network_rounds.specs.SettlingLaws.{RoundsSettle, enough_for, CommandsSettle, NetworksSettle, PlayedNetworksSettle}
 use Rattle.network_rounds.proofs.Along.{commands_are_rounds, single_commands_are_rounds}
 use Rattle.network_rounds.proofs.Near.{bridges_are_near}
 

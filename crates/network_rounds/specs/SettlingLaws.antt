@@ -1,12 +1,14 @@
 -- Bounded settling: a network that is ready becomes quiet. Of n bridges it takes 2(n - 1) + 6 rounds at most, and these
 -- are no more than settling is given.
-use Rattle.std.specs.Prelude.{◌≡◌, ℕ, ◌+◌, ◌-◌, ◌*◌, ◌≤◌, length, true}
+use Rattle.std.specs.Prelude.{◌≡◌, ℕ, ◌+◌, ◌-◌, ◌*◌, ◌≤◌, length, true, false}
 use Rattle.scenario.specs.declared.command.Command.{Command}
 use Rattle.scenario.specs.declared.command.Command.TheVariants as command
-use Rattle.network_model.specs.State.{State}
+use Rattle.spb_world.specs.Links.{is_live}
+use Rattle.network_model.specs.State.{State, links_of}
 use Rattle.network_model.specs.Play.{next_state}
+use Rattle.network_model.specs.Questions.{is_quiet}
 use Rattle.network_model.specs.Sound.{IsSoundState}
-use Rattle.network_model.specs.SoundLaws.{ForAllPlayedWithin}
+use Rattle.network_model.specs.SoundLaws.{Scene, state_after, ForAllPlayedWithin}
 use Rattle.network_model.specs.Counted.{IsCounted, most_commands}
 use Rattle.network_model.specs.Quiet.{IsQuiet}
 use Rattle.network_rounds.specs.Premises.{is_ready}
@@ -53,3 +55,12 @@ NetworksSettle = (s : State) → IsSoundState s → IsCounted s → s.accepted �
 -- so it is whatever commands were accepted
 abbrev pub PlayedNetworksSettle : Type 0
 PlayedNetworksSettle = ForAllPlayedWithin most_commands SettlesInTime
+
+-- some commands, no more than are counted, lead to a network in which a link is up, which isn't quiet, and which is
+-- ready for all rounds that settling is given
+pub record SomeNetworkSettles : Type 0 where
+  pub scene : Scene
+  pub few : length scene.commands ≤ most_commands
+  pub live : is_live (links_of (state_after scene)) 0 ≡ true
+  pub busy : is_quiet (state_after scene) ≡ false
+  pub ready : is_ready (most_settling (state_after scene)) (state_after scene) ≡ true

@@ -1,5 +1,5 @@
 //! Bounded settling. Each law is the contract of a function that does nothing.
-ghost use Rattle.network_rounds.specs.SettlingLaws.{RoundsSettle, CommandsSettle, NetworksSettle, PlayedNetworksSettle};
+ghost use Rattle.network_rounds.specs.SettlingLaws.{RoundsSettle, CommandsSettle, NetworksSettle, PlayedNetworksSettle, SomeNetworkSettles};
 
 use itag_frames::control_again;
 
@@ -21,3 +21,8 @@ pub fn networks_settle()
 {
     control_again();
 }
+
+/// Some network with a link that is up isn't quiet, and is ready for all rounds that settling is given.
+pub fn some_network_settles()
+    ensures { SomeNetworkSettles }
+{}
