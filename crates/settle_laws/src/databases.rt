@@ -4,7 +4,6 @@ ghost use Rattle.std.specs.List.{list_all};
 ghost use Rattle.std.specs.Option.{option_map_or};
 ghost use Rattle.lsdb.specs.Entry.{entry_of};
 ghost use Rattle.flooding.specs.Own as own;
-ghost use Rattle.network_rounds.specs.Premises as premise;
 ghost use Rattle.spb_network.specs.Applying.{IsReady};
 ghost use Rattle.spb_network.specs.Network.{state_of};
 ghost use Rattle.settle_laws.specs.Premises as spec;

@@ -1,14 +1,12 @@
 //! Whether the frames on their way pass a test.
-ghost use Rattle.std.specs.Prelude.{◌≡◌, ◌<◌, ◌*◌, ◌&&◌, false, true, length, IfOk};
+ghost use Rattle.std.specs.Prelude.{◌≡◌, ◌<◌, ◌*◌, ◌&&◌, length, IfOk};
 ghost use Rattle.std.specs.List.{list_all};
 ghost use Rattle.spb_types.specs.declared.link.Dir.TheVariants.{Ab, Ba};
 ghost use Rattle.isis_pdu.specs.Reading.{read};
 ghost use Rattle.snp_sync.specs.Reading.{entries_in};
-ghost use Rattle.spb_tlvs.specs.declared.entries.SnpEntry.{SnpEntry};
 ghost use Rattle.bridge_api.specs.Parsing as api;
 ghost use Rattle.network_model.specs.State.{lane_at};
 ghost use Rattle.network_rounds.specs.Premises as premise;
-ghost use Rattle.spb_network.specs.Applying.{IsReady};
 ghost use Rattle.spb_network.specs.Contents.{frames_of};
 ghost use Rattle.spb_network.specs.Network.{state_of};
 ghost use Rattle.settle_laws.specs.Premises as spec;
