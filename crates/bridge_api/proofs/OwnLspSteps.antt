@@ -83,7 +83,7 @@ pub neighbours_without_csnp_due : (p : ℕ) (ports : List BridgePort) → neighb
 neighbours_without_csnp_due p [] = refl
 neighbours_without_csnp_due p (port ∷ ports) = ap (λ (list : List Neighbour). if is_port_up port then neighbour_in p port ∷ list else list) (neighbours_without_csnp_due (p + 1) ports)
 
-neighbours_with_csnp_due : (p i : ℕ) (port : BridgePort) (ports : List BridgePort) → neighbours_from p (slice_set ports i (with_csnp_due true port)) ≡ neighbours_from p (slice_set ports i (with_csnp_due false port))
+pub neighbours_with_csnp_due : (p i : ℕ) (port : BridgePort) (ports : List BridgePort) → neighbours_from p (slice_set ports i (with_csnp_due true port)) ≡ neighbours_from p (slice_set ports i (with_csnp_due false port))
 neighbours_with_csnp_due p i port [] = refl
 neighbours_with_csnp_due p zero port (x ∷ ports) = refl
 neighbours_with_csnp_due p (suc i) port (x ∷ ports) = ap (λ (list : List Neighbour). if is_port_up x then neighbour_in p x ∷ list else list) (neighbours_with_csnp_due (p + 1) i port ports)
@@ -164,7 +164,7 @@ left_last p port v last fresh number below =
     (mapped_ages 301 301 (flags_cleared_at p) (own_entry v number) (λ e is. is) (last fresh number below))
 
 -- an entry changed in its flags alone
-mapped_says : (body : Option (List ℕ)) (f : Entry → Entry) (o : Option Entry) → ((e : Entry) → IsLspCurrent body (Some e) → IsLspCurrent body (Some (f e))) → IsLspCurrent body o → IsLspCurrent body (option_map f o)
+pub mapped_says : (body : Option (List ℕ)) (f : Entry → Entry) (o : Option Entry) → ((e : Entry) → IsLspCurrent body (Some e) → IsLspCurrent body (Some (f e))) → IsLspCurrent body o → IsLspCurrent body (option_map f o)
 mapped_says body f None keeps says = says
 mapped_says body f (Some e) keeps says = keeps e says
 

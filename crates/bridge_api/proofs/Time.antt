@@ -69,7 +69,7 @@ ticked_in : (o : Option BridgePort) → adjacency_in (option_map ticked o) ≡ o
 ticked_in None = refl
 ticked_in (Some port) = refl
 
-adjacency_second : (v : BridgeView) (p : ℕ) → adjacency_at (step second v) p ≡ option_map after_second (adjacency_at v p)
+pub adjacency_second : (v : BridgeView) (p : ℕ) → adjacency_at (step second v) p ≡ option_map after_second (adjacency_at v p)
 unfolding adjacency_at
 adjacency_second v p = ap adjacency_in (tick_port v p) ∙ ticked_in (port_at v p)
 
@@ -88,7 +88,7 @@ no_hello : (h : HelloValue) (way : ThreeWay) (j : Parsed) → j ≡ parsing.hell
 no_hello h way j is none = true≢false (ap is_some (sym (ap hello_in is) ∙ none))
 
 -- what isn't a second, and doesn't come to the adjacency, leaves it as it is
-frame_silent : (v : BridgeView) (q p : ℕ) (bytes : List ℕ) → IsSilentAt p (frame q bytes) → adjacency_at (step (frame q bytes) v) p ≡ adjacency_at v p
+pub frame_silent : (v : BridgeView) (q p : ℕ) (bytes : List ℕ) → IsSilentAt p (frame q bytes) → adjacency_at (step (frame q bytes) v) p ≡ adjacency_at v p
 unfolding adjacency_at
 frame_silent v q p bytes silent =
     elim (frame_ports v q bytes) [

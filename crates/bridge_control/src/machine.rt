@@ -13,8 +13,8 @@ ghost use Rattle.bridge_api.specs.Tables.{own_tables};
 
 use crate::heard::{HeardHello, none_heard};
 use crate::hello::hellos_of;
-use crate::ports::{attached_members, bare_ports, neighbours_at, up_ports};
-use bridge_api::{BridgeConfig, BridgePort, DropReason, Drops};
+use crate::ports::{bare_ports, neighbours_at, up_ports};
+use bridge_api::{BridgeConfig, BridgePort, DropReason, Drops, attached_members};
 use customer_learning::Learned;
 use flooding::{OWN_NUMBERS, Own, begin_all, keep_fresh, settle};
 use forwarding::Tenant;

@@ -17,7 +17,7 @@ use adjacency::{AdjState, Adjacency, AdjacencyChange};
 use bridge_api::BridgePort;
 use lsdb::Database;
 use spb_tlvs::Neighbour;
-use spb_types::{Attachment, Member, NoMemory, PortSet, SystemId};
+use spb_types::{NoMemory, PortSet};
 use std::alloc::Global;
 
 /// Ports without carrier, with these metrics.
@@ -121,33 +121,6 @@ fn neighbour_at(number: u16, port: &BridgePort) -> Neighbour
         system: port.adjacency.neighbour,
         metric: port.metric,
         port: number,
-    }
-}
-
-/// The members that attached customer ports make a system.
-pub(crate) fn attached_members(
-    alloc: Global,
-    system: SystemId,
-    attached: &[Attachment],
-) -> Result<Vec<Member>, NoMemory>
-    ensures { IfOk result (λ v. v.items ≡ map (own.member_of system) attached.now) }
-{
-    let members = attached
-        .iter()
-        .map(|a| member_of(system, a))
-        .collect(alloc)?;
-    Ok(members)
-}
-
-fn member_of(system: SystemId, a: &Attachment) -> Member
-    ensures { result ≡ own.member_of system a.now }
-{
-    Member {
-        system,
-        isid: a.isid,
-        vid: a.vid,
-        transmit: a.mode.sends(),
-        receive: a.mode.receives(),
     }
 }
 

@@ -60,7 +60,7 @@ AreBrief frames = AllByRecursion (λ s. IsBrief s.1) frames
 control_length : (sa : Mac) (pdu : List ℕ) → length sa.bytes ≡ 6 → length (control_bytes sa pdu) ≡ 17 + length pdu
 control_length sa pdu six = simp length-append (omega (arith, six))
 
-kept_short : (state : AdjState) (n : End) → length n.0.mac.bytes ≡ 6 → length (neighbour_bytes (kept_in state n)) ≤ 10
+pub kept_short : (state : AdjState) (n : End) → length n.0.mac.bytes ≡ 6 → length (neighbour_bytes (kept_in state n)) ≤ 10
 kept_short Down n six = omega arith
 kept_short Initializing n six = rw length-append (omega (arith, six))
 kept_short Up n six = rw length-append (omega (arith, six))

@@ -26,7 +26,7 @@ use Rattle.bridge_laws.proofs.FewHeld.{len-each, few_readied, more_readied, alon
 
 -- ---- lists
 
-length_if : {X : Type 0} (b : Bool) (xs : List X) → length (if b then xs else []) ≤ length xs
+pub length_if : {X : Type 0} (b : Bool) (xs : List X) → length (if b then xs else []) ≤ length xs
 length_if true xs = omega arith
 length_if false xs = omega arith
 
@@ -52,7 +52,7 @@ chunks_one : {A : Type 0} (n : ℕ) (xs : List A) → length (chunks_or_one n xs
 chunks_one n [] = omega arith
 chunks_one n (x ∷ xs) = omega (arith, few_chunks n (x ∷ xs))
 
-length_csnp_chunks : (start : LspId) (ps : List (List SnpEntry)) → length (csnp_chunks_from start ps) ≡ length ps
+pub length_csnp_chunks : (start : LspId) (ps : List (List SnpEntry)) → length (csnp_chunks_from start ps) ≡ length ps
 length_csnp_chunks start [] = refl
 length_csnp_chunks start (part ∷ []) = refl
 length_csnp_chunks start (part ∷ next ∷ more) = ap suc (length_csnp_chunks (successor (end_of start part)) (next ∷ more))
@@ -60,7 +60,7 @@ length_csnp_chunks start (part ∷ next ∷ more) = ap suc (length_csnp_chunks (
 -- ---- what is sent at a port
 
 module _ (system : SystemId) (p : ℕ) (port : BridgePort) (db : Lsps) where
-  entries_few : (test : Entry → Bool) → length (snp_entries_where test db) ≤ len db
+  pub entries_few : (test : Entry → Bool) → length (snp_entries_where test db) ≤ len db
   entries_few test =
       omega (arith, length-map (filter (λ (e : LspId × Entry). test e.1) (entries db)) (λ (e : LspId × Entry). snp_entry_of e.0 e.1), length_kept (λ (e : LspId × Entry). test e.1) (entries db), len-entries db)
 
@@ -68,7 +68,7 @@ module _ (system : SystemId) (p : ℕ) (port : BridgePort) (db : Lsps) where
   summaries_few =
       omega (arith, length_if {X = ℕ × List ℕ} port.csnp_due (map (λ (c : CsnpValue). (p, csnp_frame system c)) (csnps_of system db)), length-map {B = ℕ × List ℕ} (csnps_of system db) (λ (c : CsnpValue). (p, csnp_frame system c)), length-map (csnp_chunks db) (csnp_for system), length_csnp_chunks first_id (chunks_or_one 90 (snp_entries_where is_listed db)), chunks_one 90 (snp_entries_where is_listed db), entries_few is_listed)
 
-  lsps_few : length (lsps_at system p db) ≤ len db
+  pub lsps_few : length (lsps_at system p db) ≤ len db
   lsps_few =
       omega (arith, length-map {B = ℕ × List ℕ} (lsps_to_send db p) (λ (l : LspValue). (p, lsp_frame system l)), length-map (filter (λ (e : LspId × Entry). has e.1.srm p) (entries db)) (λ (e : LspId × Entry). lsp_in e.0 e.1), length_kept (λ (e : LspId × Entry). has e.1.srm p) (entries db), len-entries db)
 
@@ -87,7 +87,7 @@ module _ (system : SystemId) (p : ℕ) (port : BridgePort) (db : Lsps) where
 
 -- ---- and at all ports
 
-after_sending_few : (b : Bool) (p : ℕ) (db : Lsps) → len (if b then all_ssn_cleared p db else db) ≡ len db
+pub after_sending_few : (b : Bool) (p : ℕ) (db : Lsps) → len (if b then all_ssn_cleared p db else db) ≡ len db
 after_sending_few true p db = len-each _ db
 after_sending_few false p db = refl
 

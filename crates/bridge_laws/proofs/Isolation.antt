@@ -48,7 +48,7 @@ use Rattle.bridge_laws.proofs.Forwarded.{Relays, relays, Encapsulates, encapsula
 
 -- ---- what is sent in a second carries no customer's frame
 
-abbrev CarriesNone : List ℕ → Type 0
+abbrev pub CarriesNone : List ℕ → Type 0
 CarriesNone bytes = is_carrying (parsed bytes) ≡ false
 
 hello_carries_none : (system : SystemId) (p : ℕ) (port : BridgePort) → CarriesNone (hello_frame system p port)
@@ -67,7 +67,7 @@ psnp_carries_none : (system : SystemId) (s : PsnpValue) → CarriesNone (psnp_fr
 unfolding psnp_frame
 psnp_carries_none system s = control_carries_none system.mac (psnp_bytes s)
 
-abbrev AllCarryNone : List (ℕ × List ℕ) → Type 0
+abbrev pub AllCarryNone : List (ℕ × List ℕ) → Type 0
 AllCarryNone frames = AllByRecursion (λ s. CarriesNone s.1) frames
 
 each_carries_none : {X : Type 0} (f : X → List ℕ) (k : ℕ) (xs : List X) → ((x : X) → CarriesNone (f x)) → AllCarryNone (map (λ x. (k, f x)) xs)
@@ -99,7 +99,7 @@ sent_from_carries_none system p (port ∷ ports) db =
     (synced_carry_none system p port db))
     (sent_from_carries_none system (p + 1) ports (after_sending_at p port db))
 
-second_carries_none : (v : BridgeView) → AllCarryNone (sent_in_tick v)
+pub second_carries_none : (v : BridgeView) → AllCarryNone (sent_in_tick v)
 unfolding sent_in_tick
 second_carries_none v = let r : BridgeView = readied v in sent_from_carries_none r.id.system 1 r.ports r.database
 

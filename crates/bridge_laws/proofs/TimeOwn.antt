@@ -54,7 +54,7 @@ use Rattle.bridge_api.proofs.TimeLsps.{older_lasts, older_ages, up_second, expir
 
 -- ---- what the bridge has to say after a second
 
-second_says : (v : BridgeView) → bodies_of (step second v) ≡ bodies_with v (neighbours_from 1 (step second v).ports)
+pub second_says : (v : BridgeView) → bodies_of (step second v) ≡ bodies_with v (neighbours_from 1 (step second v).ports)
 second_says v = let w : BridgeView = step second v in ap bodies_of (tick_rest v) ∙ bodies_say (with_and_parts w.ports w.database w.spent w.drops v)
 
 expired_says : (v : BridgeView) → bodies_of (expired (counts_lowered v)) ≡ bodies_of (step second v)
@@ -63,10 +63,10 @@ expired_says v =
     ∙ sym (second_says v ∙ ap (bodies_with v) (ap (neighbours_from 1) (tick_ports v) ∙ neighbours_without_csnp_due 1 (map later v.ports)))
 
 -- the bridge when the lifetimes fell
-abbrev fallen : BridgeView → BridgeView
+abbrev pub fallen : BridgeView → BridgeView
 fallen v = expired (counts_lowered v)
 
-says_at : (v : BridgeView) (number : ℕ) → body_at (fallen v) number ≡ body_at (step second v) number
+pub says_at : (v : BridgeView) (number : ℕ) → body_at (fallen v) number ≡ body_at (step second v) number
 says_at v number = same_at number (bodies_of (fallen v)) (bodies_of (step second v)) (expired_says v)
 
 -- ---- own LSPs when the lifetimes fell
@@ -108,7 +108,7 @@ version_by : (v : BridgeView) (number : ℕ) (o : Option Entry) → is_live (ver
 version_by v number o dead (stays version body most least) = version
 version_by v number o dead (died live last version body) = absurd (true≢false (sym live ∙ dead))
 
-not_live : (v : BridgeView) (number : ℕ) → is_live (version_in (own_entry v number)) ≡ false → version_in (own_entry (fallen v) number) ≡ version_in (own_entry v number)
+pub not_live : (v : BridgeView) (number : ℕ) → is_live (version_in (own_entry v number)) ≡ false → version_in (own_entry (fallen v) number) ≡ version_in (own_entry v number)
 not_live v number dead =
     version_by v number (own_entry (fallen v) number) dead
     (subst (AgedFrom (own_entry v number)) (sym (expired_holds v (own_number v.id.system number))) (older_ages (up_ports (counts_lowered v)) (leaving_from 1 v.ports) (own_entry v number)))
@@ -157,7 +157,7 @@ stale_why v number body (Some old) current (inr other) =
     let f = fell_saying v number old current in inr (not_said body (own_entry (fallen v) number) old (f.lasts.body ∙ current.0) other)
 
 -- and why it isn't
-fresh_why : (v : BridgeView) (number : ℕ) (body : List ℕ) → is_live (version_in (own_entry v number)) ≡ true → 302 ≤ lifetime_in (own_entry v number) → body_in (own_entry v number) ≡ body
+pub fresh_why : (v : BridgeView) (number : ℕ) (body : List ℕ) → is_live (version_in (own_entry v number)) ≡ true → 302 ≤ lifetime_in (own_entry v number) → body_in (own_entry v number) ≡ body
     → is_new (Some body) (own_entry (fallen v) number) ≡ true
 fresh_why v number body live many is =
     let left : ℕ = lifetime_in (own_entry v number) - 1 in
@@ -213,11 +213,11 @@ refreshed_holds : (w : BridgeView) → refreshed w ≡ settling is_new w
 unfolding refreshed
 refreshed_holds w = refl
 
-readied_own : (v : BridgeView) (id : LspId) → get (readied v).database id ≡ get (settling is_new (fallen v)).database id
+pub readied_own : (v : BridgeView) (id : LspId) → get (readied v).database id ≡ get (settling is_new (fallen v)).database id
 readied_own v id = ap (λ (u : BridgeView). get u.database id) (refreshed_holds (fallen v))
 
 -- what was sent leaves own LSPs and whether the numbers are spent
-second_spent : (v : BridgeView) → (step second v).spent ≡ (settling is_new (fallen v)).spent
+pub second_spent : (v : BridgeView) → (step second v).spent ≡ (settling is_new (fallen v)).spent
 second_spent v = ap (λ (w : BridgeView). w.spent) (tick_is v) ∙ ap (λ (u : BridgeView). u.spent) (refreshed_holds (fallen v))
 
 second_own : (v : BridgeView) (number : ℕ) → own_entry (step second v) number ≡ get (step second v).database (own_number v.id.system number)

@@ -1,1 +1,10 @@
 pub mod Inbox
+pub mod FlagLaws
+pub mod Mail
+pub mod Hellos
+pub mod Versions
+pub mod Seconds
+pub mod Hearing
+pub mod Staying
+pub mod LinkFlags
+pub mod LinkFrames

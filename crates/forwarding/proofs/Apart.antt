@@ -17,7 +17,7 @@ use Rattle.customer_learning.specs.declared.place.Place.TheVariants.{Local, Remo
 use Rattle.forwarding.specs.declared.going.Going.{Going}
 use Rattle.forwarding.specs.declared.going.Going.TheVariants.{Everywhere, AtPort, Behind}
 use Rattle.forwarding.specs.declared.tenant.Tenant.{Tenant}
-use Rattle.forwarding.specs.Ports.{attachment_of, but_for, is_in, is_mute, is_way, ports_in, receives_in, receiving_ports}
+use Rattle.forwarding.specs.Ports.{attachment_of, but_for, is_in, is_mute, is_way, ports_in, is_receiver, receiving_ports}
 use Rattle.forwarding.specs.Tenant.{Carried, after_backbone, after_customer, after_delivery, delivered, delivered_going, each_with, entered, entered_by, entered_going, going_by, going_of, group_of_service, is_group, is_received, left_of, of_customer, sent_to, sent_towards, to_of, unless_mute}
 use Rattle.forwarding.specs.Laws.{IsAttachedTo, HasPlaces, LeavesInItsService, SentInItsService, DeliveredInItsService, IngressFailureChangesNothing}
 use Rattle.forwarding.specs.Placed.{AreAttachedOnce}
@@ -50,7 +50,7 @@ all_receiving : (isid : Isid) (attached : List Attachment) → AllByRecursion (�
 all_receiving isid [] = tt
 all_receiving isid (a ∷ attached) =
     let rest = weaker (λ p. IsReceivingTo attached p isid) (λ p. IsReceivingTo (a ∷ attached) p isid) (receiving_ports isid attached) (λ p h. inr h) (all_receiving isid attached) in
-    (elim (receives_in isid a) as (λ b. receives_in isid a ≡ b → AllByRecursion (λ p. IsReceivingTo (a ∷ attached) p isid) (receiving_ports isid (a ∷ attached))) [
+    (elim (is_receiver isid a) as (λ b. is_receiver isid a ≡ b → AllByRecursion (λ p. IsReceivingTo (a ∷ attached) p isid) (receiving_ports isid (a ∷ attached))) [
       | true ↦ λ h. let both = both_true (is_in isid a) (receives a.mode) h in
           rw h (all_placed (λ p. IsReceivingTo (a ∷ attached) p isid) a.port (receiving_ports isid attached) (inl (refl, same_isid isid a both.0, both.1)) rest)
       | false ↦ λ h. rw h rest

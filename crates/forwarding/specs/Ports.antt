@@ -20,16 +20,12 @@ attachment_of port attached = find (λ a. a.port == port) attached
 abbrev pub is_in : Isid → Attachment → Bool
 is_in isid a = a.isid.value == isid.value
 
--- the ports attached to an I-SID, ascending
-abbrev pub ports_of : Isid → List Attachment → List ℕ
-ports_of isid attached = ascending (λ p. p) (map (λ a. a.port) (filter (is_in isid) attached))
-
--- those of them that receive: at these the I-SID's frames leave
-abbrev pub receives_in : Isid → Attachment → Bool
-receives_in isid a = is_in isid a && receives a.mode
+-- whether a port is attached to an I-SID and receives: at these the I-SID's frames leave
+abbrev pub is_receiver : Isid → Attachment → Bool
+is_receiver isid a = is_in isid a && receives a.mode
 
 abbrev pub receiving_ports : Isid → List Attachment → List ℕ
-receiving_ports isid attached = ascending (λ p. p) (map (λ a. a.port) (filter (receives_in isid) attached))
+receiving_ports isid attached = ascending (λ p. p) (map (λ a. a.port) (filter (is_receiver isid) attached))
 
 -- whether a port is attached and doesn't receive: nothing leaves there
 abbrev pub is_mute : ℕ → List Attachment → Bool

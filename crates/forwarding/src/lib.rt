@@ -14,7 +14,6 @@ pub use laws::{
     places_stay_in_their_service, services_stay_apart,
 };
 pub use moved::Moved;
-pub use ports::is_served;
 pub use tenant::Tenant;
 
 mod backbone;

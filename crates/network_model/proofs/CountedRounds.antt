@@ -7,7 +7,7 @@ use Rattle.link_model.specs.Lanes.{first_full_from}
 use Rattle.flooding.specs.Own.{last_number}
 use Rattle.bridge_api.specs.Step.{second}
 use Rattle.network_model.specs.State.{State, lane_at}
-use Rattle.network_model.specs.Events.{ticked, delivered, ticked_from, delivered_times, lane_served, served_from, one_round, rounds, delivered_over, delivered_first, drained}
+use Rattle.network_model.specs.Events.{ticked, delivered, ticked_from, delivered_times, lane_served, served_from, all_ticked, one_round, rounds, delivered_over, delivered_first, drained}
 use Rattle.network_model.specs.Sound.{IsSoundState}
 use Rattle.network_model.specs.Counted.{IsCountedBy}
 use Rattle.network_model.proofs.SoundEvents.{core_of, Sound-ticked, Sound-delivered, Sound-ticked_from, Sound-lane_served, Sound-one_round, Sound-delivered_first}
@@ -62,14 +62,18 @@ served_counted (suc c) k n s sound counted low =
 
 -- ---- rounds
 
+pub Counted-all_ticked : (s : State) (n : ℕ) → IsSoundState s → IsCountedBy n s → n + 128 < last_number → IsCountedBy (n + 128) (all_ticked s)
+Counted-all_ticked s n sound counted low =
+    let c : ℕ = length s.views in
+    let few : c ≤ 96 = omega (arith, sound.fits.bridges, sound.world.few) in
+    let after : IsTracked (λ j. n + c) (all_ticked s) = tracked_ticks c 0 n s sound (tracked_from n s (core_of s sound) counted) (omega (arith, low, few)) in
+    counted_tracked (λ j. n + c) (n + 128) (all_ticked s) after (λ j. omega (arith, few))
+
 pub Counted-one_round : (s : State) (n : ℕ) → IsSoundState s → IsCountedBy n s → n + 128 < last_number → IsCountedBy (n + 128) (one_round s)
 unfolding one_round
 Counted-one_round s n sound counted low =
-    let c : ℕ = length s.views in
-    let few : c ≤ 96 = omega (arith, sound.fits.bridges, sound.world.few) in
-    let t : State = ticked_from c 0 s in
-    let after : IsTracked (λ j. n + c) t = tracked_ticks c 0 n s sound (tracked_from n s (core_of s sound) counted) (omega (arith, low, few)) in
-    served_counted (length t.lanes) 0 (n + 128) t (Sound-ticked_from c 0 s sound) (counted_tracked (λ j. n + c) (n + 128) t after (λ j. omega (arith, few))) (omega (arith, low))
+    let t : State = all_ticked s in
+    served_counted (length t.lanes) 0 (n + 128) t (Sound-ticked_from (length s.views) 0 s sound) (Counted-all_ticked s n sound counted low) (omega (arith, low))
 
 pub Counted-rounds : (c n : ℕ) (s : State) → IsSoundState s → IsCountedBy n s → n + 128 * c < last_number → IsCountedBy (n + 128 * c) (rounds c s)
 Counted-rounds zero n s sound counted low = counted_more n (n + 128 * 0) s (omega arith) counted

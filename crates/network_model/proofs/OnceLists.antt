@@ -12,10 +12,10 @@ use Rattle.spb_types.specs.declared.ports.PortSet.{PortSet}
 use Rattle.spb_types.specs.declared.service.Attachment.{Attachment}
 use Rattle.spb_types.specs.declared.service.Isid.{Isid}
 use Rattle.link_model.specs.Lane.{Frame}
-use Rattle.forwarding.specs.Ports.{is_in, receives_in, receiving_ports, ports_in, but_for}
+use Rattle.forwarding.specs.Ports.{is_in, is_receiver, receiving_ports, ports_in, but_for}
 use Rattle.forwarding.specs.Receiving.{IsReceivingTo}
-use Rattle.forwarding.specs.Tenant.{each_with}use Rattle.bridge_api.specs.Step.{frames_at}
-
+use Rattle.forwarding.specs.Tenant.{each_with}
+use Rattle.bridge_api.specs.Step.{frames_at}
 
 -- ---- the frames at a port
 
@@ -180,9 +180,9 @@ placed_ascends x (y ∷ ys) ascends = by (ltb x y) (eqb x y) refl refl (placed_a
 
 pub ports_ascend : (isid : Isid) (attached : List Attachment) → Ascends (λ p. p) (receiving_ports isid attached)
 ports_ascend isid [] = tt
-ports_ascend isid (a ∷ attached) = by (receives_in isid a) (ports_ascend isid attached)
+ports_ascend isid (a ∷ attached) = by (is_receiver isid a) (ports_ascend isid attached)
   where
-    by : (b : Bool) → Ascends (λ p. p) (receiving_ports isid attached) → Ascends (λ p. p) (ascending (λ p. p) (map (λ (x : Attachment). x.port) (cond b (a ∷ filter (receives_in isid) attached) (filter (receives_in isid) attached))))
+    by : (b : Bool) → Ascends (λ p. p) (receiving_ports isid attached) → Ascends (λ p. p) (ascending (λ p. p) (map (λ (x : Attachment). x.port) (cond b (a ∷ filter (is_receiver isid) attached) (filter (is_receiver isid) attached))))
     by true rest = placed_ascends a.port (receiving_ports isid attached) rest
     by false rest = rest
 
@@ -208,9 +208,9 @@ placed_keeps x q (y ∷ ys) among = by (ltb x y) (eqb x y) among (λ later. plac
 -- each port that is attached to the I-SID and receives is one of them
 pub receiver_in : (isid : Isid) (attached : List Attachment) (q : ℕ) → IsReceivingTo attached q isid → IsPortIn q (receiving_ports isid attached)
 receiver_in isid [] q is = absurd is
-receiver_in isid (a ∷ attached) q is = by (receives_in isid a) refl is (λ later. receiver_in isid attached q later)
+receiver_in isid (a ∷ attached) q is = by (is_receiver isid a) refl is (λ later. receiver_in isid attached q later)
   where
-    by : (b : Bool) → receives_in isid a ≡ b → IsReceivingTo (a ∷ attached) q isid → (IsReceivingTo attached q isid → IsPortIn q (receiving_ports isid attached)) → IsPortIn q (ascending (λ p. p) (map (λ (x : Attachment). x.port) (cond b (a ∷ filter (receives_in isid) attached) (filter (receives_in isid) attached))))
+    by : (b : Bool) → is_receiver isid a ≡ b → IsReceivingTo (a ∷ attached) q isid → (IsReceivingTo attached q isid → IsPortIn q (receiving_ports isid attached)) → IsPortIn q (ascending (λ p. p) (map (λ (x : Attachment). x.port) (cond b (a ∷ filter (is_receiver isid) attached) (filter (is_receiver isid) attached))))
     by true e (inl here) more = subst (λ (p : ℕ). IsPortIn p (placed (λ r. r) a.port (receiving_ports isid attached))) here.0 (placed_has a.port (receiving_ports isid attached))
     by true e (inr there) more = placed_keeps a.port q (receiving_ports isid attached) (more there)
     by false e (inl here) more = absurd (false≢true (sym e ∙ (λ i. eq-eqb a.isid.value isid.value (ap (λ (n : Isid). n.value) here.1) i && here.2 i)))
@@ -233,9 +233,9 @@ weaker P Q (p ∷ ps) more all = (more p all.0, weaker P Q ps more all.1)
 pub ports_receive : (isid : Isid) (attached : List Attachment) → AllByRecursion (λ p. IsReceivingTo attached p isid) (receiving_ports isid attached)
 ports_receive isid [] = tt
 ports_receive isid (a ∷ attached) =
-    by (receives_in isid a) refl (weaker (λ p. IsReceivingTo attached p isid) (λ p. IsReceivingTo (a ∷ attached) p isid) (receiving_ports isid attached) (λ p is. inr is) (ports_receive isid attached))
+    by (is_receiver isid a) refl (weaker (λ p. IsReceivingTo attached p isid) (λ p. IsReceivingTo (a ∷ attached) p isid) (receiving_ports isid attached) (λ p is. inr is) (ports_receive isid attached))
   where
-    by : (b : Bool) → receives_in isid a ≡ b → AllByRecursion (λ p. IsReceivingTo (a ∷ attached) p isid) (receiving_ports isid attached) → AllByRecursion (λ p. IsReceivingTo (a ∷ attached) p isid) (ascending (λ p. p) (map (λ (x : Attachment). x.port) (cond b (a ∷ filter (receives_in isid) attached) (filter (receives_in isid) attached))))
+    by : (b : Bool) → is_receiver isid a ≡ b → AllByRecursion (λ p. IsReceivingTo (a ∷ attached) p isid) (receiving_ports isid attached) → AllByRecursion (λ p. IsReceivingTo (a ∷ attached) p isid) (ascending (λ p. p) (map (λ (x : Attachment). x.port) (cond b (a ∷ filter (is_receiver isid) attached) (filter (is_receiver isid) attached))))
     by true e rest =
         let both = and_parts (is_in isid a) (receives a.mode) e in
         let value : a.isid.value ≡ isid.value = eqb-true a.isid.value isid.value both.0 in
@@ -285,5 +285,5 @@ other_leaves_once isid attached port q away is =
 pub no_ports_of : (isid : Isid) (attached : List Attachment) → AllByRecursion (λ a. is_in isid a ≡ false) attached → receiving_ports isid attached ≡ []
 no_ports_of isid [] none = refl
 no_ports_of isid (a ∷ attached) none =
-    ap (λ (b : Bool). ascending (λ p. p) (map (λ (x : Attachment). x.port) (cond (b && receives a.mode) (a ∷ filter (receives_in isid) attached) (filter (receives_in isid) attached)))) none.0
+    ap (λ (b : Bool). ascending (λ p. p) (map (λ (x : Attachment). x.port) (cond (b && receives a.mode) (a ∷ filter (is_receiver isid) attached) (filter (is_receiver isid) attached)))) none.0
     ∙ no_ports_of isid attached none.1

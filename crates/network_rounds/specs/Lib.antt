@@ -1,3 +1,9 @@
 pub mod Rounds
+pub mod Near
+pub mod Along
 pub mod Premises
 pub mod Settling
+pub mod Flags
+pub mod Steady
+pub mod Agreement
+pub mod SettlingLaws

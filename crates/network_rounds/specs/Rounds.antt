@@ -1,5 +1,5 @@
 -- Rounds of a network in which no customer's frame is on its way: what comes to each bridge in a round.
-use Rattle.std.specs.Prelude.{◌≡◌, ℕ, zero, suc, ◌+◌, ◌≤◌, List, [], ◌∷◌, ◌++◌, length, map, true, false, ◌==◌, Option, Some, None, slice_get, if◌then◌else◌}
+use Rattle.std.specs.Prelude.{◌≡◌, ℕ, zero, suc, ◌+◌, ◌≤◌, List, [], ◌++◌, length, map, true, false, ◌==◌, Option, Some, None, slice_get, if◌then◌else◌}
 use Rattle.std.specs.List.{AllByRecursion}
 use Rattle.std.specs.Option.{option_map}
 use Rattle.spb_types.specs.declared.limits.TheConstants.{MOST_FRAMES}
@@ -41,8 +41,8 @@ abbrev pub HasNoCustomers : List LinkLanes → Type 0
 HasNoCustomers lanes = (k : ℕ) (dir : Dir)
     → AllByRecursion (λ bytes. is_carrying (parsed bytes) ≡ false) (lane_of lanes k dir)
 
--- after a round of such a network all lanes are empty, and each bridge is what a second, and then what comes to it, make
--- of it
+-- after a round of such a network all lanes are empty, and each bridge is what a second, and then what comes to it,
+-- make of it
 pub record IsHeardRound (s t : State) : Type 0 where
   pub world : t.world ≡ s.world
   pub lanes : (k : ℕ) (dir : Dir) → lane_at t k dir ≡ []

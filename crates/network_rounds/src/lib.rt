@@ -3,6 +3,14 @@
 //! There is no code here: each law is the contract of a function that does nothing.
 #![tactic(auto)]
 
-pub use laws::rounds_are_heard;
+pub use agreement::bridges_come_to_agree;
+pub use flags::flags_fall;
+pub use laws::{bridges_are_near, rounds_are_heard, rounds_keep_networks_sound};
+pub use settling::{networks_settle, rounds_settle};
+pub use steady::{lifetimes_last, links_come_up, nothing_is_lost};
 
+mod agreement;
+mod flags;
 mod laws;
+mod settling;
+mod steady;

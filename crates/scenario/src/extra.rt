@@ -1,4 +1,4 @@
-//! Lines that are no commands: questions that change nothing, and settling; as values, and the words that begin them.
+//! Questions that change nothing, as values, and the words that begin their lines.
 ghost use Rattle.std.specs.Prelude.{◌≡◌};
 ghost use Rattle.scenario.specs.Keywords.{extra_keyword, change_of};
 
@@ -6,8 +6,7 @@ use crate::command::Command;
 use crate::keyword::Keyword;
 use spb_types::{EntryWord, Name, Seq};
 
-/// What a line asks that is no command: one variant for each form of its line. All but `Settle` are questions that
-/// change nothing.
+/// A question that changes nothing: one variant for each form of its line.
 ///
 /// Each number is one of at most 10 decimal digits; whether it is in range is not judged here.
 #[derive(Debug, Drop)]
@@ -29,8 +28,6 @@ pub enum Extra {
         vid: u64,
         entries: Seq<EntryWord>,
     },
-    /// `settle`: rounds until the network is quiet.
-    Settle,
 }
 
 /// The first word of the line of an extra: one for each form.
@@ -39,7 +36,6 @@ pub enum ExtraKeyword {
     WhatIf,
     Proof,
     Check,
-    Settle,
 }
 
 impl ExtraKeyword {
@@ -56,9 +52,6 @@ impl ExtraKeyword {
         }
         if word == b"check".as_slice() {
             return Some(ExtraKeyword::Check);
-        }
-        if word == b"settle".as_slice() {
-            return Some(ExtraKeyword::Settle);
         }
         None
     }

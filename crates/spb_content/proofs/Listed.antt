@@ -12,7 +12,7 @@ use Rattle.spb_types.specs.declared.limits.TheConstants.{GREATEST_ISID}
 use Rattle.spb_tlvs.specs.declared.capability.Service.{Service}
 use Rattle.spb_tlvs.specs.declared.capability.Capability.TheVariants.{Services}
 use Rattle.spb_content.specs.declared.local.Local.{Local}
-use Rattle.spb_content.specs.Local.{IsAttached, vid_number, isid_number, vids_in, isids_in, in_vid, services_in, service_among, service_of, is_of_isid, own_mac, capability_tlv, service_tlvs}
+use Rattle.spb_content.specs.Local.{IsAttached, vid_number, isid_number, vids_in, isids_in, in_vid, services_in, service_among, said_service, is_of_isid, own_mac, capability_tlv, service_tlvs}
 use Rattle.spb_content.specs.Members.{pair_number}
 use Rattle.spb_content.proofs.Members.{Has, all_has, has_all, has_map, map_has, has_filter, filter_has, has_flat_map, flat_map_has, has_parts}
 use Rattle.spb_content.proofs.Ascended.{ascending_ascends, numbered_ascending, ascends_once}
@@ -24,7 +24,7 @@ use Rattle.spb_content.proofs.Merged.{ascends_mapped, ascending_again, one_item,
 
 -- a member as it is said
 abbrev pub listed : Mac → Member → Mac × Vid × Service
-listed mac m = (mac, m.vid, service_of m)
+listed mac m = (mac, m.vid, said_service m)
 
 -- the number of what is said
 abbrev place : Mac × Vid × Service → ℕ
@@ -85,7 +85,7 @@ one_serves does ms v m up h vid =
         (and_from (is_of_isid m.isid m) (does m) (eq-eqb m.isid.value m.isid.value refl) (ap does (sym i) ∙ e))
     back n (inr i) e = absurd i
 
-service_alone : (ms : List Member) (v : Vid) (m : Member) → Ascends service_number ms → Has m ms → m.vid.value ≡ v.value → service_among (in_vid v ms) m.isid ≡ service_of m
+service_alone : (ms : List Member) (v : Vid) (m : Member) → Ascends service_number ms → Has m ms → m.vid.value ≡ v.value → service_among (in_vid v ms) m.isid ≡ said_service m
 service_alone ms v m up h vid =
     let t = one_serves (λ n. n.transmit) ms v m up h vid in
     let r = one_serves (λ n. n.receive) ms v m up h vid in
@@ -129,9 +129,9 @@ from_listing : (mac : Mac) (ms : List Member) (x : Mac × Vid × Service) → As
 from_listing mac ms x up h =
     let w = flat_map_has (group mac ms) x (vids_in ms) h in
     let g = in_group mac ms w.0 x w.2 in
-    let alone : service_among (in_vid w.0 ms) g.member.isid ≡ service_of g.member = service_alone ms w.0 g.member up g.has g.vid in
+    let alone : service_among (in_vid w.0 ms) g.member.isid ≡ said_service g.member = service_alone ms w.0 g.member up g.has g.vid in
     subst (λ y. Has y (map (listed mac) ms))
-    (sym (g.is ∙ (ap (λ (s : Service). (mac, w.0, s)) alone ∙ ap (λ (v : Vid). (mac, v, service_of g.member)) (vid_is w.0 g.member.vid (sym g.vid)))))
+    (sym (g.is ∙ (ap (λ (s : Service). (mac, w.0, s)) alone ∙ ap (λ (v : Vid). (mac, v, said_service g.member)) (vid_is w.0 g.member.vid (sym g.vid)))))
     (has_map (listed mac) g.member ms g.has)
 
 to_listing : (mac : Mac) (ms : List Member) (x : Mac × Vid × Service) → Ascends service_number ms → Has x (map (listed mac) ms) → Has x (listing mac ms)
@@ -143,9 +143,9 @@ to_listing mac ms x up h =
     let among : Has m.0 (in_vid v ms) = has_filter (λ (n : Member). n.vid.value == v.value) m.0 ms m.1 (eq-eqb v.value v.value refl) in
     let isid = attached_isid m.0 (in_vid v ms) among in
     let here : Has m.0.isid (isids_in (in_vid v ms)) = subst (λ i. Has i (isids_in (in_vid v ms))) (isid_is isid.item m.0.isid isid.is) isid.has in
-    let service : Has (service_of m.0) (services_in v ms) =
+    let service : Has (said_service m.0) (services_in v ms) =
     subst (λ s. Has s (services_in v ms)) (service_alone ms v m.0 up m.1 refl) (has_map (service_among (in_vid v ms)) m.0.isid (isids_in (in_vid v ms)) here) in
-    let in_it : Has (listed mac m.0) (group mac ms v) = has_map (λ s. (mac, v, s)) (service_of m.0) (services_in v ms) service in
+    let in_it : Has (listed mac m.0) (group mac ms v) = has_map (λ s. (mac, v, s)) (said_service m.0) (services_in v ms) service in
     subst (λ y. Has y (listing mac ms)) (sym m.2) (has_flat_map (group mac ms) v (listed mac m.0) (vids_in ms) there in_it)
 
 pub listed_again : (mac : Mac) (ms : List Member) → Ascends service_number ms → AllByRecursion IsAttached ms → listing mac ms ≡ map (listed mac) ms
@@ -175,14 +175,14 @@ isids_ascend v ms up = ascends_mapped service_number isid_number (λ (m : Member
     by m n h i less = omega (arith, less, vid m h, vid n i)
 
 -- are those members, each as its service
-pub services_alone : (v : Vid) (ms : List Member) → Ascends service_number ms → services_in v ms ≡ map service_of (in_vid v ms)
+pub services_alone : (v : Vid) (ms : List Member) → Ascends service_number ms → services_in v ms ≡ map said_service (in_vid v ms)
 services_alone v ms up =
     ap (map (service_among (in_vid v ms))) (ascending_again isid_number (map (λ m. m.isid) (in_vid v ms)) (isids_ascend v ms up))
     ∙ (map_map (service_among (in_vid v ms)) (λ (m : Member). m.isid) (in_vid v ms)
-    ∙ map_same (λ (m : Member). service_among (in_vid v ms) m.isid) service_of (in_vid v ms) (λ m h. (let f = filter_has (λ (k : Member). k.vid.value == v.value) m ms h in service_alone ms v m up f.0 (eqb-true m.vid.value v.value f.1))))
+    ∙ map_same (λ (m : Member). service_among (in_vid v ms) m.isid) said_service (in_vid v ms) (λ m h. (let f = filter_has (λ (k : Member). k.vid.value == v.value) m ms h in service_alone ms v m up f.0 (eqb-true m.vid.value v.value f.1))))
 
 -- so are they written
-pub alone_written : (l : Local) (ms : List Member) → Ascends service_number ms → flat_map (λ v. capability_tlv (Services (own_mac l) v (map service_of (in_vid v ms)))) (vids_in ms) ≡ service_tlvs (record l { attached = ms })
+pub alone_written : (l : Local) (ms : List Member) → Ascends service_number ms → flat_map (λ v. capability_tlv (Services (own_mac l) v (map said_service (in_vid v ms)))) (vids_in ms) ≡ service_tlvs (record l { attached = ms })
 alone_written l ms up =
-    flat_map_agree (λ v. capability_tlv (Services (own_mac l) v (map service_of (in_vid v ms)))) (λ v. capability_tlv (Services (own_mac l) v (services_in v ms))) (vids_in ms)
+    flat_map_agree (λ v. capability_tlv (Services (own_mac l) v (map said_service (in_vid v ms)))) (λ v. capability_tlv (Services (own_mac l) v (services_in v ms))) (vids_in ms)
     (λ v. ap (λ (ss : List Service). capability_tlv (Services (own_mac l) v ss)) (sym (services_alone v ms up)))

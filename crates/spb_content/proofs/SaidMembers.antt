@@ -8,7 +8,7 @@ use Rattle.spb_types.specs.declared.address.SystemId.{SystemId}
 use Rattle.spb_types.specs.declared.graph.Member.{Member}
 use Rattle.spb_content.specs.declared.local.Local.{Local}
 use Rattle.spb_content.specs.Local.{own_mac, said_by, IsAttached}
-use Rattle.spb_content.specs.Members.{pair_of, is_of, member_for, merged}
+use Rattle.spb_content.specs.Members.{pair_of, is_of_pair, member_for, merged}
 use Rattle.spb_content.specs.Folding.{service_number}
 use Rattle.spb_content.specs.Graph.{member_of, members_of}
 use Rattle.spb_content.proofs.Members.{Has, all_has, has_all}
@@ -41,8 +41,8 @@ merged_acts : (x : SystemId) (ms : List Member) → AllByRecursion Acts ms → A
 merged_acts x ms acts =
     has_all Acts (merged x ms) (λ m h. let f = merged_for x ms m h in subst Acts (sym f.is) (by f.some f.has (all_has Acts f.some ms acts f.has)))
   where
-    done : (does : Member → Bool) (m : Member) → Has m ms → does m ≡ true → list_any (λ n. is_of (pair_of m) n && does n) ms ≡ true
-    done does m h e = has_any (λ n. is_of (pair_of m) n && does n) m ms h (and_from (is_of (pair_of m) m) (does m) (eq-eqb (service_number m) (service_number m) refl) e)
+    done : (does : Member → Bool) (m : Member) → Has m ms → does m ≡ true → list_any (λ n. is_of_pair (pair_of m) n && does n) ms ≡ true
+    done does m h e = has_any (λ n. is_of_pair (pair_of m) n && does n) m ms h (and_from (is_of_pair (pair_of m) m) (does m) (eq-eqb (service_number m) (service_number m) refl) e)
 
     by : (m : Member) → Has m ms → Acts m → Acts (member_for x ms (pair_of m))
     by m h e = at m.transmit refl e

@@ -61,8 +61,8 @@ service_among ms isid = record {
 }
 
 -- the service of a member alone
-abbrev pub service_of : Member → Service
-service_of m = record { isid = m.isid; transmit = m.transmit; receive = m.receive }
+abbrev pub said_service : Member → Service
+said_service m = record { isid = m.isid; transmit = m.transmit; receive = m.receive }
 
 -- the services of some members in one base VID, each once
 abbrev pub services_among : List Member → List Service

@@ -19,8 +19,8 @@ abbrev pub pairs_of : List Member → List (Vid × Isid)
 pairs_of ms = ascending pair_number (map pair_of ms)
 
 -- whether a member is in the service of this pair
-abbrev pub is_of : Vid × Isid → Member → Bool
-is_of p m = pair_number (pair_of m) == pair_number p
+abbrev pub is_of_pair : Vid × Isid → Member → Bool
+is_of_pair p m = pair_number (pair_of m) == pair_number p
 
 -- the member of this pair that a system is by some members: it transmits where one of them does, and receives where one
 -- of them does
@@ -29,8 +29,8 @@ member_for x ms p = record {
   system = x;
   isid = p.1;
   vid = p.0;
-  transmit = list_any (λ m. is_of p m && m.transmit) ms;
-  receive = list_any (λ m. is_of p m && m.receive) ms;
+  transmit = list_any (λ m. is_of_pair p m && m.transmit) ms;
+  receive = list_any (λ m. is_of_pair p m && m.receive) ms;
 }
 
 -- the members that a system is by some members: one for each pair, in their order

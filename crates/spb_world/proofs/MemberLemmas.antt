@@ -11,7 +11,7 @@ use Rattle.spb_types.specs.declared.limits.TheConstants.{GREATEST_ISID}
 use Rattle.spb_types.specs.declared.service.Attachment.{Attachment}
 use Rattle.spb_types.specs.declared.service.Isid.{Isid}
 use Rattle.spb_types.specs.declared.service.Vid.{Vid}
-use Rattle.spb_content.specs.Members.{pair_of, pair_number, pairs_of, is_of, member_for, merged}
+use Rattle.spb_content.specs.Members.{pair_of, pair_number, pairs_of, is_of_pair, member_for, merged}
 use Rattle.spb_content.proofs.Ascended.{has_ascending, numbered_ascending}
 use Rattle.spb_content.proofs.Merged.{merged_for}
 use Rattle.spb_content.proofs.Members.{Has, contains_from_has, all_has, has_map, map_has, has_flat_map, flat_map_has, weaker}
@@ -128,10 +128,10 @@ makes : (system : SystemId) (attached : List Attachment) (a : Attachment) → Ha
 makes system attached a high h = pair_merged system (map (member_of system) attached) (member_of system a) (isids_of_members system attached high) (has_map (member_of system) a attached h)
 
 -- which does what it does
-does : (system : SystemId) (attached : List Attachment) (a : Attachment) (flag : Member → Bool) → Has a attached → flag (member_of system a) ≡ true → list_any (λ m. is_of (pair_of (member_of system a)) m && flag m) (map (member_of system) attached) ≡ true
+does : (system : SystemId) (attached : List Attachment) (a : Attachment) (flag : Member → Bool) → Has a attached → flag (member_of system a) ≡ true → list_any (λ m. is_of_pair (pair_of (member_of system a)) m && flag m) (map (member_of system) attached) ≡ true
 does system attached a flag h is =
     let m : Member = member_of system a in
-    has_any (λ n. is_of (pair_of m) n && flag n) m (map (member_of system) attached) (has_map (member_of system) a attached h) (λ i. eq-eqb (pair_number (pair_of m)) (pair_number (pair_of m)) refl i && is i)
+    has_any (λ n. is_of_pair (pair_of m) n && flag n) m (map (member_of system) attached) (has_map (member_of system) a attached h) (λ i. eq-eqb (pair_number (pair_of m)) (pair_number (pair_of m)) refl i && is i)
 
 -- ---- the members of the wiring
 

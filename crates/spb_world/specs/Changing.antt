@@ -1,19 +1,13 @@
 -- What one change would make of what is declared: a link that fails or comes back, or an end of one that gets a metric.
-use Rattle.std.specs.Prelude.{ℕ, List, Bool, true, false, Option, None}
+use Rattle.std.specs.Prelude.{ℕ, List, true, false, Option, None}
 use Rattle.std.specs.Option.{option_map_or}
 use Rattle.scenario.specs.declared.command.Command.{Command}
 use Rattle.scenario.specs.declared.command.Command.TheVariants as command
+pub use Rattle.scenario.specs.Extras.{is_change}
 use Rattle.spb_world.specs.declared.reason.Reason.{Reason}
 use Rattle.spb_world.specs.World.{World, place_of}
 use Rattle.spb_world.specs.Declaring.{with_live, with_end_metric}
 use Rattle.spb_world.specs.Naming.{down_refusal, up_refusal, metric_refusal}
-
--- whether a command is such a change
-abbrev pub is_change : Command → Bool
-is_change (command.Down link) = true
-is_change (command.Up link) = true
-is_change (command.Metric link side metric) = true
-is_change c = false
 
 -- why it can't be made, if it can't
 abbrev pub change_refusal : World → Command → Option Reason

@@ -1,13 +1,13 @@
 //! The graph of the wiring, part by part: bridges, edges of links that are up, members of services.
 ghost use Rattle.std.specs.Prelude.{◌≡◌, ◌++◌, length, map, OnOk, IfOk};
 ghost use Rattle.std.specs.List.{filter_map};
-ghost use Rattle.bridge_api.specs.Own as own;
 ghost use Rattle.spb_world.specs.World as state;
 ghost use Rattle.spb_world.specs.Members as made;
 ghost use Rattle.spb_world.specs.Systems as paths;
 
 use crate::attached::Attached;
 use crate::{DeclaredBridge, DeclaredLink};
+use bridge_api::attached_members;
 use indexmap::IndexMap;
 use spb_content::merge;
 use spb_types::{Attachment, Edge, GraphBridge, Mac, Member, Name, NoMemory, SystemId};
@@ -78,34 +78,6 @@ pub fn graph_edges(
     Ok(list)
 }
 
-/// The member that an attached customer port makes its bridge.
-fn member_of(system: SystemId, attachment: &Attachment) -> Member
-    ensures { result ≡ own.member_of system attachment.now }
-{
-    Member {
-        system,
-        isid: attachment.isid,
-        vid: attachment.vid,
-        transmit: attachment.mode.sends(),
-        receive: attachment.mode.receives(),
-    }
-}
-
-/// The member that each of what is attached at a bridge makes it.
-fn port_members(
-    alloc: Global,
-    system: SystemId,
-    attached: &[Attachment],
-) -> Result<Vec<Member>, NoMemory>
-    ensures { IfOk result (λ list. list.items ≡ map (own.member_of system) attached.now) }
-{
-    let list = attached
-        .iter()
-        .map(|attachment| member_of(system, attachment))
-        .collect(alloc)?;
-    Ok(list)
-}
-
 /// Puts the members that what is attached at a bridge makes it behind the others: one for each base VID and I-SID, in
 /// ascending order of these.
 fn put_members(
@@ -116,7 +88,7 @@ fn put_members(
 ) -> Result<(), NoMemory>
     ensures { OnOk result (members.new.items ≡ members.old.items ++ state.bridge_members system attached.now) }
 {
-    let each = port_members(alloc, system, attached)?;
+    let each = attached_members(alloc, system, attached)?;
     let merged = merge(alloc, system, each.as_slice())?;
     members.extend_from_slice(merged.as_slice())?;
     Ok(())

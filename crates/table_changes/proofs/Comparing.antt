@@ -12,14 +12,14 @@ use Rattle.spb_world.specs.Changing.{with_change}
 use Rattle.spb_world.specs.Declaring.{link_of, with_end_metric}
 use Rattle.spb_world.specs.Naming.{metric_refusal}
 use Rattle.spb_world.specs.Reason.{reason_unless}
-use Rattle.table_changes.specs.Changes.{rows_of, same_row, is_row_in, gone, changes_at, changes_of, change_at}
+use Rattle.table_changes.specs.Changes.{all_rows, same_row, is_row_in, gone, changes_at, changes_of, change_at}
 use Rattle.table_changes.specs.Laws.{SameWorldSameRows, SomeChangeIsNone, RowsGoAndCome}
 use Rattle.table_changes.proofs.Same.{same_is, same_self}
 
 -- a row is gone where it is among the old rows and not among the new ones
-is_gone : (r : TableRow) (old new : Tables) → is_row_in r (gone old new) ≡ (not (is_row_in r (rows_of new)) && is_row_in r (rows_of old))
+is_gone : (r : TableRow) (old new : Tables) → is_row_in r (gone old new) ≡ (not (is_row_in r (all_rows new)) && is_row_in r (all_rows old))
 is_gone r old new =
-    any-filter_same (same_row r) (λ s. not (is_row_in s (rows_of new))) (not (is_row_in r (rows_of new))) (λ s h. ap (λ t. not (is_row_in t (rows_of new))) (sym (same_is r s h))) (rows_of old)
+    any-filter_same (same_row r) (λ s. not (is_row_in s (all_rows new))) (not (is_row_in r (all_rows new))) (λ s h. ap (λ t. not (is_row_in t (all_rows new))) (sym (same_is r s h))) (all_rows old)
 
 left_and_come : (o n : Bool) → n ≡ (o && not (not n && o)) || (not o && n)
 left_and_come true true = refl
@@ -31,8 +31,8 @@ pub rows_go_and_come : RowsGoAndCome
 rows_go_and_come w c i r =
     let old = wired_tables w i in
     let new = wired_tables (with_change w c) i in
-    let o = is_row_in r (rows_of old) in
-    left_and_come o (is_row_in r (rows_of new)) ∙ sym (ap₂ (λ g a. (o && not g) || a) (is_gone r old new) (is_gone r new old))
+    let o = is_row_in r (all_rows old) in
+    left_and_come o (is_row_in r (all_rows new)) ∙ sym (ap₂ (λ g a. (o && not g) || a) (is_gone r old new) (is_gone r new old))
 
 in_longer : (r s : TableRow) (rows : List TableRow) → is_row_in r rows ≡ true → is_row_in r (s ∷ rows) ≡ true
 in_longer r s rows h = by (same_row r s)
@@ -55,7 +55,7 @@ all_in [] = tt
 all_in (r ∷ rows) = (ap (λ b. b || is_row_in r rows) (same_self r), all_longer r rows rows (all_in rows))
 
 none_gone_itself : (t : Tables) → gone t t ≡ []
-none_gone_itself t = none_gone (rows_of t) (rows_of t) (all_in (rows_of t))
+none_gone_itself t = none_gone (all_rows t) (all_rows t) (all_in (all_rows t))
 
 no_changes : (w : World) (places : List ℕ) → flat_map (changes_at w w) places ≡ []
 no_changes w [] = refl

@@ -9,12 +9,12 @@ use Rattle.spb_types.specs.declared.tables.GroupRow.{GroupRow}
 use Rattle.spb_types.specs.declared.tables.TableRow.{TableRow}
 use Rattle.spb_types.specs.declared.tables.TableRow.TheVariants.{Unicast, Group}
 use Rattle.spb_types.specs.declared.tables.Tables.{Tables}
-use Rattle.table_changes.specs.Changes.{rows_of}
+use Rattle.table_changes.specs.Changes.{all_rows}
 
 from_place : (rows : List TableRow) (k : ℕ) (r d : TableRow) → k < length rows → get_or rows k d ≡ r → drop k rows ≡ r ∷ drop (k + 1) rows
 from_place rows k r d h e = rw (add-one, drop-cons rows k d) (ap (λ (s : TableRow). s ∷ drop (suc k) rows) e)
 
-pub unicast_from : (t : Tables) (k : ℕ) (d : UnicastRow) → k < length t.unicast → drop k (rows_of t) ≡ Unicast (get_or t.unicast k d) ∷ drop (k + 1) (rows_of t)
+pub unicast_from : (t : Tables) (k : ℕ) (d : UnicastRow) → k < length t.unicast → drop k (all_rows t) ≡ Unicast (get_or t.unicast k d) ∷ drop (k + 1) (all_rows t)
 unicast_from t k d h =
     let us : List TableRow = map Unicast t.unicast in
     let gs : List TableRow = map Group t.group in
@@ -23,7 +23,7 @@ unicast_from t k d h =
     let both : length (us ++ gs) ≡ length us + length gs = length-append us gs in
     from_place (us ++ gs) k _ (Unicast d) (omega arith) (get_or_append_left us gs (Unicast d) k within ∙ get_or-map {X = UnicastRow} {Y = TableRow} Unicast t.unicast k d (Unicast d) h)
 
-pub group_from : (t : Tables) (k : ℕ) (d : GroupRow) → length t.unicast ≤ k → k < length (rows_of t) → drop k (rows_of t) ≡ Group (get_or t.group (k - length t.unicast) d) ∷ drop (k + 1) (rows_of t)
+pub group_from : (t : Tables) (k : ℕ) (d : GroupRow) → length t.unicast ≤ k → k < length (all_rows t) → drop k (all_rows t) ≡ Group (get_or t.group (k - length t.unicast) d) ∷ drop (k + 1) (all_rows t)
 group_from t k d h within =
     let us : List TableRow = map Unicast t.unicast in
     let gs : List TableRow = map Group t.group in

@@ -12,7 +12,7 @@ use Rattle.fdb_build.proofs.TableLemmas.{rows_total, rows_are_table}
 use Rattle.fdb_build.proofs.GroupLemmas.{groups_total, group_rows_are_table}
 use Rattle.spb_world.specs.World.{World, Sound, system_at, world_graph, wired_tables}
 use Rattle.spb_world.proofs.ValidLemmas.{valid, valid_for}
-use Rattle.table_changes.specs.Changes.{rows_of}
+use Rattle.table_changes.specs.Changes.{all_rows}
 use Rattle.table_changes.specs.Passing.{table_cmp}
 
 pub not_before_itself : (r : TableRow) → table_cmp r r ≢ Less
@@ -53,7 +53,7 @@ both_ascend [] gs h k = groups_ascend gs k
 both_ascend (u ∷ us) gs h k = (all_behind u us gs h.0, both_ascend us gs h.1 k)
 
 -- the rows that the wiring gives a bridge ascend
-pub wired_ascend : (w : World) (i : ℕ) → Sound w → AscendsBy table_cmp (rows_of (wired_tables w i))
+pub wired_ascend : (w : World) (i : ℕ) → Sound w → AscendsBy table_cmp (all_rows (wired_tables w i))
 unfolding wired_tables
 wired_ascend w i sound =
     let me = system_at w.bridges i in

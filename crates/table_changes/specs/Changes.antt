@@ -13,8 +13,8 @@ use Rattle.spb_world.specs.Changing.{with_change}
 use Rattle.table_changes.specs.declared.differing.Change.{Change}
 
 -- the rows of both tables of a bridge, unicast rows first
-abbrev pub rows_of : Tables → List TableRow
-rows_of t = map Unicast t.unicast ++ map Group t.group
+abbrev pub all_rows : Tables → List TableRow
+all_rows t = map Unicast t.unicast ++ map Group t.group
 
 -- two unicast rows have the same VID, address and port
 abbrev pub same_unicast : UnicastRow → UnicastRow → Bool
@@ -37,7 +37,7 @@ is_row_in r rows = list_any (same_row r) rows
 
 -- the rows of the old tables that the new ones lack
 abbrev pub gone : Tables → Tables → List TableRow
-gone old new = filter (λ r. not (is_row_in r (rows_of new))) (rows_of old)
+gone old new = filter (λ r. not (is_row_in r (all_rows new))) (all_rows old)
 
 -- a row comes to the tables of the bridge at place i, or goes from them
 abbrev pub change_at : ℕ → Bool → TableRow → Change

@@ -4,7 +4,7 @@ use Rattle.spb_types.specs.declared.tables.TableRow.{TableRow}
 use Rattle.scenario.specs.declared.command.Command.{Command}
 use Rattle.spb_world.specs.World.{World, wired_tables}
 use Rattle.spb_world.specs.Changing.{change_refusal, is_change, with_change}
-use Rattle.table_changes.specs.Changes.{rows_of, is_row_in, gone, changes_of}
+use Rattle.table_changes.specs.Changes.{all_rows, is_row_in, gone, changes_of}
 
 -- a command that changes nothing of what is declared changes no row
 abbrev pub SameWorldSameRows : Type 0
@@ -31,6 +31,6 @@ added_at w c i = gone (wired_tables (with_change w c) i) (wired_tables w i)
 -- after a change a bridge has the rows that it had and that don't go, and those that come, and no others
 abbrev pub RowsGoAndCome : Type 0
 RowsGoAndCome = (w : World) (c : Command) (i : ℕ) (r : TableRow)
-    → is_row_in r (rows_of (wired_tables (with_change w c) i))
-    ≡ ((is_row_in r (rows_of (wired_tables w i)) && not (is_row_in r (removed_at w c i)))
+    → is_row_in r (all_rows (wired_tables (with_change w c) i))
+    ≡ ((is_row_in r (all_rows (wired_tables w i)) && not (is_row_in r (removed_at w c i)))
     || is_row_in r (added_at w c i))

@@ -3,7 +3,7 @@ ghost use Rattle.std.specs.Prelude.{◌≡◌, ◌++◌, ◌<◌, None, OnOk, If
 ghost use Rattle.fdb_build.specs.Tables.{AscendsBy};
 ghost use Rattle.spb_world.specs.Changing.{change_refusal};
 ghost use Rattle.spb_world.specs.World as state;
-ghost use Rattle.table_changes.specs.Changes.{rows_of, changes_at, changes_of};
+ghost use Rattle.table_changes.specs.Changes.{all_rows, changes_at, changes_of};
 ghost use Rattle.table_changes.specs.Passing.{table_cmp};
 
 use crate::gone::put_gone;
@@ -26,7 +26,7 @@ pub struct Change {
 fn wired(alloc: Global, world: &mut World, place: usize) -> Result<Tables, NoMemory>
     requires { state.Sound world.old }
     ensures tables { IfOk result (λ t. t ≡ state.wired_tables world.old place) }
-    ensures ascend { IfOk result (λ t. AscendsBy table_cmp (rows_of t)) }
+    ensures ascend { IfOk result (λ t. AscendsBy table_cmp (all_rows t)) }
     ensures same { world.new ≡ world.old }
 {
     world.prepare_tables(alloc, place)?;

@@ -1,7 +1,7 @@
 //! The rows of tables that others lack.
 ghost use Rattle.std.specs.Prelude.{◌≡◌, ◌++◌, [], ◌∷◌, drop, map, OnOk, if◌then◌else◌};
 ghost use Rattle.fdb_build.specs.Tables.{AscendsBy};
-ghost use Rattle.table_changes.specs.Changes.{rows_of, change_at, gone};
+ghost use Rattle.table_changes.specs.Changes.{all_rows, change_at, gone};
 ghost use Rattle.table_changes.specs.Passing as passing;
 
 use crate::Change;
@@ -10,7 +10,7 @@ use spb_types::{NoMemory, TableRow, Tables};
 
 /// The first place from `next` on at which no row before this one stands.
 fn passed(tables: &Tables, next: usize, row: TableRow) -> usize
-    ensures { drop result (rows_of tables.now) ≡ passing.drop_before row (drop next (rows_of tables.now)) }
+    ensures { drop result (all_rows tables.now) ≡ passing.drop_before row (drop next (all_rows tables.now)) }
 {
     let count = row_count(tables);
     for place in next..count {
@@ -23,7 +23,7 @@ fn passed(tables: &Tables, next: usize, row: TableRow) -> usize
 
 /// Whether this row stands at a place.
 fn is_at(tables: &Tables, place: usize, row: TableRow) -> bool
-    ensures { result ≡ passing.begins_with row (drop place (rows_of tables.now)) }
+    ensures { result ≡ passing.begins_with row (drop place (all_rows tables.now)) }
 {
     place < row_count(tables) && is_same(row, row_at(tables, place))
 }
@@ -46,8 +46,8 @@ pub fn put_gone(
     tables: &Tables,
     others: &Tables,
 ) -> Result<(), NoMemory>
-    requires rows { AscendsBy passing.table_cmp (rows_of tables.now) }
-    requires others { AscendsBy passing.table_cmp (rows_of others.now) }
+    requires rows { AscendsBy passing.table_cmp (all_rows tables.now) }
+    requires others { AscendsBy passing.table_cmp (all_rows others.now) }
     ensures { OnOk result
         (changes.new.items ≡ changes.old.items ++ map (change_at bridge added) (gone tables.now others.now)) }
 {

@@ -1,22 +1,22 @@
 //! The rows of both tables of a bridge, as one list.
 ghost use Rattle.std.specs.Prelude.{◌≡◌, ◌+◌, ◌<◌, ◌∷◌, length, drop};
 ghost use Rattle.std.specs.Ordering.{is_lt};
-ghost use Rattle.table_changes.specs.Changes.{rows_of, same_row};
+ghost use Rattle.table_changes.specs.Changes.{all_rows, same_row};
 ghost use Rattle.table_changes.specs.Passing as passing;
 
 use spb_types::{Mac, TableRow, Tables, Vid};
 
 /// How many rows both tables have.
 pub fn row_count(tables: &Tables) -> usize
-    ensures { result ≡ length (rows_of tables.now) }
+    ensures { result ≡ length (all_rows tables.now) }
 {
     tables.unicast.as_slice().len() + tables.group.as_slice().len()
 }
 
 /// The row at a place of both tables, of which there is one: unicast rows first.
 pub fn row_at(tables: &Tables, place: usize) -> TableRow
-    requires { place < length (rows_of tables.now) }
-    ensures { drop place (rows_of tables.now) ≡ result ∷ drop (place + 1) (rows_of tables.now) }
+    requires { place < length (all_rows tables.now) }
+    ensures { drop place (all_rows tables.now) ≡ result ∷ drop (place + 1) (all_rows tables.now) }
 {
     let unicast = tables.unicast.as_slice();
     if place < unicast.len() {
