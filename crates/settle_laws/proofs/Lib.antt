@@ -1,0 +1,5 @@
+mod Frames
+mod Walks
+mod BothLanes
+mod HeldWalks
+mod IdCounts
