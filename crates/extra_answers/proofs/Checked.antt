@@ -1,37 +1,33 @@
 -- What the test of a question says, and what is answered where entries prove the best paths.
-use Rattle.std.proofs.Common.{◌≡◌, arith, ℕ, suc, ◌<◌, ◌==◌, ◌&&◌, Bool, true, false, true≢false, List, [], ◌∷◌, length, map, Option, Some, None, is_some, option_map, Result, IfOk, refl, sym, ap, ◌∙◌, subst}
+use Rattle.std.proofs.Common.{◌≡◌, arith, ℕ, suc, ◌<◌, ◌==◌, ◌&&◌, true, false, true≢false, List, [], ◌∷◌, length, Option, Some, None, is_some, option_map, refl, sym, ap, ◌∙◌, subst}
 use Rattle.std.proofs.lemmas.Bool.Decides.{nat_tests}
-use Rattle.std.proofs.lemmas.List.{length-map}
-use Rattle.std.specs.List.{list_all}
 use Rattle.std.specs.Option.{unwrap_or}
+use Rattle.std.proofs.lemmas.List.{length-map}
+use Rattle.spb_types.specs.Ect.{mask_of}
 use Rattle.spb_types.specs.Graph.{IsBridge, IsValid, IsAmong, systems_of}
 use Rattle.spb_types.specs.declared.address.SystemId.{SystemId}
 use Rattle.spb_types.specs.declared.entry_word.EntryWord.{EntryWord}
 use Rattle.spb_types.specs.declared.graph.Graph.{Graph}
 use Rattle.spb_types.specs.declared.tables.Path.{Path}
-use Rattle.ect_trees.specs.Best.{best_of}
 use Rattle.ect_trees.specs.Path.{cost_of}
 use Rattle.ect_trees.specs.Tree.{best_path}
-use Rattle.what_if.specs.declared.checking.Verdict.TheVariants.{Yes, No}
+use Rattle.what_if.specs.declared.checking.Verdict.TheVariants.{Yes}
 use Rattle.what_if.specs.declared.entry.Entry.{Entry}
-use Rattle.what_if.specs.Entries.{best_entries}
 use Rattle.what_if.specs.Failing.{NobodyFails, verdict_of}
 use Rattle.what_if.specs.Labels.{IsPathBy}
-use Rattle.what_if.specs.Laws.{ProveBest}
 use Rattle.what_if.proofs.Best.{best_passes}
 use Rattle.what_if.proofs.Passing.{passing_is_best}
-use Rattle.what_if.proofs.Proved.{yes_is_best}
+use Rattle.what_if.proofs.Proved.{yes_is_best as yes_is_best_entries}
 use Rattle.spb_world.specs.World.{World, Bridges, place_of, system_at, graph_bridges, world_graph}
-use Rattle.spb_world.specs.Declaring.{has_vid}
 use Rattle.spb_world.specs.Naming.{are_declared, path_refusal}
-use Rattle.spb_world.specs.Reason.{reason_unless, ◌or◌}
-use Rattle.spb_world.proofs.ListLemmas.{and-left, and-right}
+use Rattle.spb_world.proofs.ListLemmas.{and-left}
 use Rattle.spb_world.proofs.PlaceLemmas.{place_within}
 use Rattle.spb_world.proofs.RefusalLemmas.{reason_unless-none, or-first, or-second}
-use Rattle.spb_world.proofs.ValidLemmas.{among_at}
-use Rattle.extra_answers.specs.Answers.{path_along, yes_text, verdict_text, checked_text}
-use Rattle.extra_answers.specs.Entries.{system_named, entries_of}
-use Rattle.extra_answers.specs.Refusing.{is_known, check_refusal}
+use Rattle.spb_world.proofs.ValidLemmas.{among_at, valid}
+use Rattle.extra_answers.specs.Answers.{path_along, yes_text, verdict_text, check_in}
+use Rattle.extra_answers.specs.Entries.{system_named, entry_of, entries_of}
+use Rattle.extra_answers.specs.Laws.{YesIsBest}
+use Rattle.extra_answers.specs.Refusing.{check_refusal}
 
 -- ---- what isn't refused
 
@@ -77,7 +73,7 @@ all_bridges (b ∷ bs) = ap suc (all_bridges bs)
 
 module _ (g : Graph) (mask : ℕ) (a : SystemId) (es : List Entry) (valid : IsValid g) (bridge : IsBridge g a) (long : length es ≡ length g.bridges) (yes : verdict_of g mask es a ≡ Yes) where
   nobody : NobodyFails g mask es a
-  nobody = subst (λ t. NobodyFails g mask t a) (sym ((yes_is_best g mask es a valid bridge long).0 yes)) (best_passes g mask a valid bridge)
+  nobody = subst (λ t. NobodyFails g mask t a) (sym ((yes_is_best_entries g mask es a valid bridge long).0 yes)) (best_passes g mask a valid bridge)
 
   -- the path that they give is the best one
   pub along_is_best : (to : SystemId) → path_along g es a to ≡ best_path g mask a to
@@ -86,3 +82,22 @@ module _ (g : Graph) (mask : ℕ) (a : SystemId) (es : List Entry) (valid : IsVa
   -- so the path that is read off them is it
   pub read_off_is_along : (to : SystemId) (path : Option Path) → IsPathBy g es to path → path ≡ path_along g es a to
   read_off_is_along to path by = by mask a bridge nobody ∙ sym (along_is_best to)
+
+-- ---- the answer
+
+pub yes_is_best : YesIsBest
+yes_is_best w from to vid plan words sound accepted planned right =
+    let g : Graph = world_graph w in
+    let mask : ℕ = mask_of plan.ect in
+    let a : SystemId = system_named w.bridges from in
+    let b : SystemId = system_named w.bridges to in
+    let es : List Entry = entries_of w.bridges words in
+    let is : IsAccepted w from to vid words = check_accepted w from to vid words accepted in
+    let long : length es ≡ length g.bridges = length-map words (entry_of w.bridges) ∙ is.long ∙ sym (all_bridges w.bridges) in
+    let bridge : IsBridge g a = path_starts w from to vid is.path in
+    record {
+      entries = (yes_is_best_entries g mask es a (valid w sound) bridge long).0 right;
+      text = ap (check_in w from to words) planned
+          ∙ ap (verdict_text w.bridges (path_along g es a b)) right
+          ∙ ap (yes_text w.bridges) (along_is_best g mask a es (valid w sound) bridge long right b);
+    }

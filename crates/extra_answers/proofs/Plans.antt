@@ -1,5 +1,5 @@
 -- What is found in a list.
-use Rattle.std.proofs.Common.{List, [], ◌∷◌, Bool, true, false, Option, Some, None, IfSome, if◌then◌else◌}
+use Rattle.std.proofs.Common.{List, [], ◌∷◌, Bool, true, false, Some, IfSome, if◌then◌else◌}
 use Rattle.std.specs.List.{AllByRecursion, find}
 
 -- what holds of each element holds of the one that is found

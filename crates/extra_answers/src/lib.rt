@@ -11,6 +11,7 @@ pub use refusing::refusal;
 mod answering;
 mod changing;
 mod checking;
+pub mod laws;
 mod naming;
 mod proving;
 mod refusing;
