@@ -96,7 +96,7 @@ yes_is_best w from to vid plan words sound accepted planned right =
     let long : length es ≡ length g.bridges = length-map words (entry_of w.bridges) ∙ is.long ∙ sym (all_bridges w.bridges) in
     let bridge : IsBridge g a = path_starts w from to vid is.path in
     record {
-      entries = (yes_is_best_entries g mask es a (valid w sound) bridge long).0 right;
+      best = (yes_is_best_entries g mask es a (valid w sound) bridge long).0 right;
       text = ap (check_in w from to words) planned
           ∙ ap (verdict_text w.bridges (path_along g es a b)) right
           ∙ ap (yes_text w.bridges) (along_is_best g mask a es (valid w sound) bridge long right b);

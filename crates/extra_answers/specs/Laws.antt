@@ -22,7 +22,7 @@ IsRight w plan from entries =
 -- other bridge
 pub record IsBestAnswer (w : World) (from to : List ℕ) (vid : ℕ) (plan : VidPlan) (entries : List EntryWord) : Type 0
   where
-    pub entries : entries_of w.bridges entries ≡ proved_entries w plan from
+    pub best : entries_of w.bridges entries ≡ proved_entries w plan from
     pub text : extra_text w (Check from to vid entries) ≡ yes_text w.bridges
         (best_path (world_graph w) (mask_of plan.ect) (system_named w.bridges from) (system_named w.bridges to))
 
