@@ -8,7 +8,10 @@ use Rattle.scenario.specs.declared.command.Command.{Command}
 use Rattle.scenario.specs.declared.cutter.Stop.{Stop}
 use Rattle.scenario.specs.declared.cutter.Stop.TheVariants as stop
 use Rattle.scenario.specs.Cutting.{start, lines_of}
+use Rattle.scenario.specs.declared.extra.Extra.{Extra}
+use Rattle.scenario.specs.Extras.{extra_of}
 use Rattle.scenario.specs.Grammar.{line_of}
+use Rattle.extra_answers.specs.Refusing.{extra_refusal}
 use Rattle.spb_world.specs.declared.reason.Reason.{Reason}
 use Rattle.network_model.specs.declared.delivered.Delivered.{Delivered}
 use Rattle.network_model.specs.Captured.{seen_of, captured}
@@ -21,7 +24,7 @@ use Rattle.script_run.specs.declared.voice.Voice.TheVariants.{Packets}
 use Rattle.script_run.specs.Capturing.{capture_text}
 use Rattle.script_run.specs.Output.{AppendsFront}
 use Rattle.script_run.specs.Pieces.{Completes, WritesWhole, WritesSoon, whole_part}
-use Rattle.script_run.specs.Play.{Judged, judged, judged_by, judged_as, packet_of, packets_of}
+use Rattle.script_run.specs.Play.{Judged, judged, judged_by, judged_as, judged_extra, judged_line, packet_of, packets_of}
 use Rattle.script_run.specs.Text.{Played, joined, concluded, play, played, lines_played, commands_joined, commands_in, said_in}
 use Rattle.script_run.proofs.Completing.{if_some}
 use Rattle.script_run.proofs.Putting.{Front-longer}
@@ -51,9 +54,18 @@ tells_as s number (Err column) = record { packets = refl; state = refl }
 tells_as s number (Ok None) = record { packets = refl; state = refl }
 tells_as s number (Ok (Some c)) = tells_by s number c (refusal_of s c)
 
+tells_extra : (s : State) (number : ℕ) (x : Extra) (o : Option Reason) → Tells s (judged_extra s number x o)
+tells_extra s number x (Some reason) = record { packets = refl; state = refl }
+tells_extra s number x None = record { packets = refl; state = refl }
+
+tells_line : (s : State) (number : ℕ) (line : List ℕ) (r : Result (Option Extra) ℕ) → Tells s (judged_line s number line r)
+tells_line s number line (Err column) = record { packets = refl; state = refl }
+tells_line s number line (Ok (Some x)) = tells_extra s number x (extra_refusal s.world x)
+tells_line s number line (Ok None) = tells_as s number (line_of line)
+
 line_tells : (s : State) (number : ℕ) (line : List ℕ) → Tells s (judged s number line)
 unfolding judged
-line_tells s number line = tells_as s number (line_of line)
+line_tells s number line = tells_line s number line (extra_of line)
 
 joined_tells : (s : State) (number : ℕ) (j : Judged) (o : Option Refusal) (p : Played) (ds : List Command) → Tells s j → p.says Packets ≡ packets_of (captured j.state ds)
     → (joined number j o p).says Packets ≡ packets_of (captured s (commands_joined j.commands o ds))

@@ -6,7 +6,10 @@ use Rattle.scenario.specs.declared.command.Command.{Command}
 use Rattle.scenario.specs.declared.command.Command.TheVariants as command
 use Rattle.scenario.specs.declared.cutter.Stop.{Stop}
 use Rattle.scenario.specs.declared.cutter.Stop.TheVariants as stop
+use Rattle.scenario.specs.declared.extra.Extra.{Extra}
+use Rattle.scenario.specs.Extras.{extra_of}
 use Rattle.scenario.specs.Grammar.{line_of}
+use Rattle.extra_answers.specs.Refusing.{extra_refusal}
 use Rattle.bridge_api.specs.Shown.{Shown}
 use Rattle.spb_network.specs.declared.network.NetworkOf.{NetworkOf}
 use Rattle.spb_world.specs.declared.reason.Reason.{Reason}
@@ -24,7 +27,7 @@ use Rattle.network_model.proofs.ApartLaws.{services_stay_apart}
 use Rattle.network_model.proofs.OnceLaws.{networks_deliver_once}
 use Rattle.script_run.specs.declared.refusal.Refusal.{Refusal}
 use Rattle.script_run.specs.Commands.{LinesPlayCommands, AllLeaveEntered, AllDeliverOnce}
-use Rattle.script_run.specs.Play.{Judged, judged, judged_by, judged_as}
+use Rattle.script_run.specs.Play.{Judged, judged, judged_by, judged_as, judged_extra, judged_line}
 use Rattle.script_run.specs.Replying.{IsNew}
 use Rattle.script_run.specs.Text.{Played, joined, concluded, play, lines_played, commands_joined, commands_in}
 use Rattle.script_run.proofs.Octets.{HasOctets, line_octets}
@@ -50,9 +53,18 @@ leads_as s number (Err column) octets = leads_nothing s
 leads_as s number (Ok None) octets = leads_nothing s
 leads_as s number (Ok (Some c)) octets = leads_by s number c (refusal_of s c) refl (octets c refl)
 
+leads_extra : (s : State) (number : ℕ) (x : Extra) (o : Option Reason) → Leads s (judged_extra s number x o).commands (judged_extra s number x o).state
+leads_extra s number x (Some reason) = leads_nothing s
+leads_extra s number x None = leads_nothing s
+
+leads_line : (s : State) (number : ℕ) (line : List ℕ) (r : Result (Option Extra) ℕ) → Leads s (judged_line s number line r).commands (judged_line s number line r).state
+leads_line s number line (Err column) = leads_nothing s
+leads_line s number line (Ok (Some x)) = leads_extra s number x (extra_refusal s.world x)
+leads_line s number line (Ok None) = leads_as s number (line_of line) (line_octets line)
+
 line_leads : (s : State) (number : ℕ) (line : List ℕ) → Leads s (judged s number line).commands (judged s number line).state
 unfolding judged
-line_leads s number line = leads_as s number (line_of line) (line_octets line)
+line_leads s number line = leads_line s number line (extra_of line)
 
 -- ---- lines
 
@@ -158,9 +170,18 @@ commands_of_one s number (Ok (Some c)) = by_refusal s number c (refusal_of s c)
     by_refusal s number c None = omega arith
     by_refusal s number c (Some reason) = omega arith
 
+commands_of_extra : (s : State) (number : ℕ) (x : Extra) (o : Option Reason) → length (judged_extra s number x o).commands ≤ 1
+commands_of_extra s number x None = omega arith
+commands_of_extra s number x (Some reason) = omega arith
+
+commands_of_line : (s : State) (number : ℕ) (line : List ℕ) (r : Result (Option Extra) ℕ) → length (judged_line s number line r).commands ≤ 1
+commands_of_line s number line (Err column) = omega arith
+commands_of_line s number line (Ok (Some x)) = commands_of_extra s number x (extra_refusal s.world x)
+commands_of_line s number line (Ok None) = commands_of_one s number (line_of line)
+
 line_commands : (s : State) (number : ℕ) (line : List ℕ) → length (judged s number line).commands ≤ 1
 unfolding judged
-line_commands s number line = commands_of_one s number (line_of line)
+line_commands s number line = commands_of_line s number line (extra_of line)
 
 joined_few : (here later : List Command) (o : Option Refusal) (n : ℕ) → length here ≤ 1 → length later ≤ n → length (commands_joined here o later) ≤ n + 1
 joined_few here later None n one more = omega (arith, one, more, length-append here later)

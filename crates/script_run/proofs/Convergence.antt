@@ -1,7 +1,10 @@
 -- Every state that an accepted line leaves tells, where it is quiet.
 use Rattle.std.proofs.Common.{◌≡◌, ◌≤◌, ◌+◌, ℕ, List, [], ◌∷◌, length, refl, sym, ap, ◌∙◌, true≢false, ⊎_elim, Option, Some, None, IfSome, Result, Ok, Err, arith}
 use Rattle.scenario.specs.declared.command.Command.{Command}
+use Rattle.scenario.specs.declared.extra.Extra.{Extra}
+use Rattle.scenario.specs.Extras.{extra_of}
 use Rattle.scenario.specs.Grammar.{line_of}
+use Rattle.extra_answers.specs.Refusing.{extra_refusal}
 use Rattle.bridge_api.specs.Shown.{Shown}
 use Rattle.spb_network.specs.declared.network.NetworkOf.{NetworkOf}
 use Rattle.spb_world.specs.declared.reason.Reason.{Reason}
@@ -15,7 +18,7 @@ use Rattle.network_model.proofs.SoundPlay.{commands_keep_sound}
 use Rattle.network_model.proofs.CountedStays.{stays_counted}
 use Rattle.network_model.proofs.Convergence.{counted_quiet_is_converged}
 use Rattle.script_run.specs.declared.refusal.Refusal.{Refusal}
-use Rattle.script_run.specs.Play.{judged, judged_by, judged_as}
+use Rattle.script_run.specs.Play.{judged, judged_by, judged_as, judged_extra, judged_line}
 use Rattle.script_run.specs.Replying.{IsNew}
 use Rattle.script_run.specs.States.{IsTrusted}
 use Rattle.script_run.specs.Text.{lines_played, IfAccepted, AllStates}
@@ -37,9 +40,18 @@ kept_as s number (Err column) kept = kept
 kept_as s number (Ok None) kept = kept
 kept_as s number (Ok (Some c)) kept = kept_by s number c (refusal_of s c) refl kept
 
+kept_extra : (s : State) (number : ℕ) (x : Extra) (o : Option Reason) → IsKept s → IsKept (judged_extra s number x o).state
+kept_extra s number x (Some reason) kept = kept
+kept_extra s number x None kept = kept
+
+kept_line : (s : State) (number : ℕ) (line : List ℕ) (r : Result (Option Extra) ℕ) → IsKept s → IsKept (judged_line s number line r).state
+kept_line s number line (Err column) kept = kept
+kept_line s number line (Ok (Some x)) kept = kept_extra s number x (extra_refusal s.world x) kept
+kept_line s number line (Ok None) kept = kept_as s number (line_of line) kept
+
 line_kept : (s : State) (number : ℕ) (line : List ℕ) → IsKept s → IsKept (judged s number line).state
 unfolding judged
-line_kept s number line kept = kept_as s number (line_of line) kept
+line_kept s number line kept = kept_line s number line (extra_of line) kept
 
 -- ---- the states of a script
 

@@ -9,3 +9,4 @@ pub mod Convergence
 pub mod Commands
 pub mod Putting
 pub mod Captured
+pub mod Foretold

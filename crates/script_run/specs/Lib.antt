@@ -11,3 +11,4 @@ pub mod Run
 pub mod Running
 pub mod Puts
 pub mod Capturing
+pub mod Foretold

@@ -3,7 +3,11 @@ use Rattle.std.specs.Prelude.{ℕ, List, [], ◌∷◌, flat_map, Option, Some, 
 use Rattle.frame_capture.specs.Capture.{packet_bytes}
 use Rattle.report.specs.Lines.{error_text}
 use Rattle.scenario.specs.declared.command.Command.{Command}
+use Rattle.scenario.specs.declared.extra.Extra.{Extra}
+use Rattle.scenario.specs.Extras.{extra_of}
 use Rattle.scenario.specs.Grammar.{line_of}
+use Rattle.extra_answers.specs.Answers.{extra_text}
+use Rattle.extra_answers.specs.Refusing.{extra_refusal}
 use Rattle.spb_world.specs.declared.reason.Reason.{Reason}
 use Rattle.network_model.specs.declared.delivered.Delivered.{Delivered}
 use Rattle.network_model.specs.Captured.{seen_of}
@@ -55,15 +59,18 @@ abbrev pub said_of : Voice → State → Command → List ℕ
 said_of Answers s command = text_of_answer (answer_of s command)
 said_of Packets s command = packets_of (seen_of s command)
 
+-- a line that gives a command or asks a question, and is refused for a reason
+abbrev pub refused_for : State → ℕ → Reason → Judged
+refused_for s number reason = record {
+  says = λ v. if_answers v (error_text number (reason_number reason) (name_of reason) None);
+  refused = Some (refusal.Command reason);
+  commands = [];
+  state = s;
+}
+
 -- a command, by the reason for which it is refused
 abbrev pub judged_by : State → ℕ → Command → Option Reason → Judged
-judged_by s number command (Some reason) =
-    record {
-      says = λ v. if_answers v (error_text number (reason_number reason) (name_of reason) None);
-      refused = Some (refusal.Command reason);
-      commands = [];
-      state = s;
-    }
+judged_by s number command (Some reason) = refused_for s number reason
 judged_by s number command None = record {
   says = λ v. said_of v s command;
   refused = None;
@@ -71,12 +78,29 @@ judged_by s number command None = record {
   state = next_state s command;
 }
 
--- a line, by what it was read as
+-- a question that changes nothing, by the reason for which it is refused: the answer to it is written, no packet is,
+-- and no command is played
+abbrev pub judged_extra : State → ℕ → Extra → Option Reason → Judged
+judged_extra s number extra (Some reason) = refused_for s number reason
+judged_extra s number extra None = record {
+  says = λ v. if_answers v (extra_text s.world extra);
+  refused = None;
+  commands = [];
+  state = s;
+}
+
+-- a line, by what it was read as among commands
 abbrev pub judged_as : State → ℕ → Result (Option Command) ℕ → Judged
 judged_as s number (Err column) = misspelled s number column
 judged_as s number (Ok None) = record { says = λ v. []; refused = None; commands = []; state = s }
 judged_as s number (Ok (Some command)) = judged_by s number command (refusal_of s command)
 
+-- a line, by what it was read as among the questions that change nothing; where it is none, it is read as a command
+abbrev pub judged_line : State → ℕ → List ℕ → Result (Option Extra) ℕ → Judged
+judged_line s number line (Err column) = misspelled s number column
+judged_line s number line (Ok (Some extra)) = judged_extra s number extra (extra_refusal s.world extra)
+judged_line s number line (Ok None) = judged_as s number (line_of line)
+
 -- the line of this number, counted from 1, without its end
 unfoldable pub judged : State → ℕ → List ℕ → Judged
-judged s number line = judged_as s number (line_of line)
+judged s number line = judged_line s number line (extra_of line)

@@ -5,7 +5,7 @@
 
 pub use capturing::capture_script;
 pub use held::put;
-pub use laws::lines_play_commands;
+pub use laws::{changes_are_foretold, changes_are_refused_alike, lines_play_commands};
 pub use output::write_all;
 pub use refusal::Refusal;
 pub use runner::run_script;

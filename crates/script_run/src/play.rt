@@ -1,6 +1,8 @@
 //! One line of a script: read, judged, played, and answered.
 ghost use Rattle.std.specs.Prelude.{◌≡◌, [], Some, None, codes, IfOk, OnOk};
+ghost use Rattle.extra_answers.specs.Refusing.{extra_refusal};
 ghost use Rattle.report.specs.Lines as texts;
+ghost use Rattle.scenario.specs.Grammar.{line_of};
 ghost use Rattle.spb_network.specs.Applying.{IsReady};
 ghost use Rattle.spb_network.specs.Network.{state_of};
 ghost use Rattle.spb_world.specs.Reason as reasons;
@@ -13,8 +15,9 @@ use crate::Refusal;
 use crate::answer::answer_text;
 use crate::reply::Reply;
 use bridge_api::Bridge;
+use extra_answers::{answer, refusal};
 use report::error_text;
-use scenario::{Command, LineError, parse_line};
+use scenario::{Command, Extra, LineError, parse_extra, parse_line};
 use spb_network::{ApplyError, Delivered, NetworkOf, Reason};
 use spb_types::NoMemory;
 use std::alloc::Global;
@@ -66,6 +69,53 @@ fn play_command<B: Bridge>(
     }
 }
 
+/// Judges and plays the line of this number as a command, or passes over it where it is blank or a comment.
+fn play_plain<B: Bridge>(
+    alloc: Global,
+    network: &mut NetworkOf<B>,
+    number: u32,
+    line: &[u8],
+) -> Result<Reply, NoMemory>
+    requires { IsAlive B.shown network.old }
+    ensures ok { IfOk result (λ reply. Replies
+        (play.judged_as (state_of B.shown network.old) number (line_of line.now))
+        reply (state_of B.shown network.new)) }
+    ensures alive { OnOk result (IsAlive B.shown network.new) }
+    ensures ready { IsReady B.shown network.new }
+{
+    match parse_line(alloc, line) {
+        Ok(Some(command)) => play_command(alloc, network, number, &command),
+        Ok(None) => Ok(Reply {
+            text: Vec::new(alloc),
+            refused: None,
+        }),
+        Err(LineError::Words(column)) => misspelled(alloc, number, column),
+        Err(LineError::NoMemory) => Err(NoMemory),
+    }
+}
+
+/// Judges and answers a question that changes nothing.
+fn answer_extra<B: Bridge>(
+    alloc: Global,
+    network: &NetworkOf<B>,
+    number: u32,
+    extra: &Extra,
+) -> Result<Reply, NoMemory>
+    requires { IsAlive B.shown network.now }
+    ensures { IfOk result (λ reply. Replies
+        (play.judged_extra (state_of B.shown network.now) number extra.now
+        (extra_refusal (state_of B.shown network.now).world extra.now))
+        reply (state_of B.shown network.now)) }
+{
+    match refusal(network.world(), extra) {
+        Some(reason) => refused(alloc, number, reason),
+        None => Ok(Reply {
+            text: answer(alloc, network.world(), extra)?,
+            refused: None,
+        }),
+    }
+}
+
 /// Judges and plays the line of this number, counted from 1, given without its end. After NoMemory nothing is said of
 /// the network.
 #[tactic(auto, unfolding(crate::specs::Play::judged))]
@@ -82,13 +132,10 @@ pub(crate) fn play_line<B: Bridge>(
     ensures alive { OnOk result (IsAlive B.shown network.new) }
     ensures ready { IsReady B.shown network.new }
 {
-    match parse_line(alloc, line) {
-        Ok(Some(command)) => play_command(alloc, network, number, &command),
-        Ok(None) => Ok(Reply {
-            text: Vec::new(alloc),
-            refused: None,
-        }),
-        Err(LineError::Words(column)) => misspelled(alloc, number, column),
+    match parse_extra(alloc, line) {
+        Ok(Some(extra)) => answer_extra(alloc, network, number, &extra),
+        Ok(None) => play_plain(alloc, network, number, line),
+        Err(LineError::Words(at)) => misspelled(alloc, number, at),
         Err(LineError::NoMemory) => Err(NoMemory),
     }
 }
@@ -116,6 +163,44 @@ fn watch_command<B: Bridge>(
     }
 }
 
+/// Judges and plays the line of this number as a command, or passes over it where it is blank or a comment. It notes what
+/// the line delivers, behind nothing.
+fn watch_plain<B: Bridge>(
+    alloc: Global,
+    network: &mut NetworkOf<B>,
+    number: u32,
+    line: &[u8],
+    seen: &mut Vec<Delivered>,
+) -> Result<Option<Refusal>, NoMemory>
+    requires alive { IsAlive B.shown network.old }
+    requires none { seen.old.items ≡ [] }
+    ensures ok { IfOk result (λ refused. Watched
+        (play.judged_as (state_of B.shown network.old) number (line_of line.now))
+        refused seen.new.items (state_of B.shown network.new)) }
+    ensures alive { OnOk result (IsAlive B.shown network.new) }
+    ensures ready { IsReady B.shown network.new }
+{
+    match parse_line(alloc, line) {
+        Ok(Some(command)) => watch_command(network, number, &command, seen),
+        Ok(None) => Ok(None),
+        Err(LineError::Words(column)) => Ok(Some(Refusal::Words(column))),
+        Err(LineError::NoMemory) => Err(NoMemory),
+    }
+}
+
+/// Judges a question that changes nothing. Nothing is delivered by it.
+fn watch_extra<B: Bridge>(network: &NetworkOf<B>, extra: &Extra) -> Option<Refusal>
+    ensures { (number : _) → Watched
+        (play.judged_extra (state_of B.shown network.now) number extra.now
+        (extra_refusal (state_of B.shown network.now).world extra.now))
+        result [] (state_of B.shown network.now) }
+{
+    match refusal(network.world(), extra) {
+        Some(reason) => Some(Refusal::Command(reason)),
+        None => None,
+    }
+}
+
 /// Judges and plays the line of this number, as [`play_line`] does, and notes what it delivers, behind nothing. It says
 /// why it is refused. After NoMemory nothing is said of the network, nor of what was noted.
 #[tactic(auto, unfolding(crate::specs::Play::judged))]
@@ -133,9 +218,9 @@ pub(crate) fn watch_line<B: Bridge>(
     ensures alive { OnOk result (IsAlive B.shown network.new) }
     ensures ready { IsReady B.shown network.new }
 {
-    match parse_line(alloc, line) {
-        Ok(Some(command)) => watch_command(network, number, &command, seen),
-        Ok(None) => Ok(None),
+    match parse_extra(alloc, line) {
+        Ok(Some(extra)) => Ok(watch_extra(network, &extra)),
+        Ok(None) => watch_plain(alloc, network, number, line, seen),
         Err(LineError::Words(column)) => Ok(Some(Refusal::Words(column))),
         Err(LineError::NoMemory) => Err(NoMemory),
     }

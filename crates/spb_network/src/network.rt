@@ -100,6 +100,13 @@ impl<B: Bridge> NetworkOf<B> {
         self.boxes.as_slice()
     }
 
+    /// What is declared and attached. Takes no memory.
+    pub fn world(&self) -> &World
+        ensures { result.now ≡ (state_of B.shown self.now).world }
+    {
+        &self.world
+    }
+
     /// Applies a command: one step of play from the present state.
     ///
     /// `Halted` exactly where an earlier command found no memory, and `Refused` with the first reason that holds

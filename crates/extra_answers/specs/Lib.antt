@@ -1,0 +1,4 @@
+pub mod Refusing
+pub mod Entries
+pub mod Answers
+pub mod Laws

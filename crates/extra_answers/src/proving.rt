@@ -1,0 +1,75 @@
+//! The entries that prove the best paths from a bridge.
+ghost use Rattle.std.specs.Prelude.{◌≡◌, IfOk};
+ghost use Rattle.report.specs.Checking as texts;
+ghost use Rattle.spb_tlvs.specs.Capability.{IsTree};
+ghost use Rattle.spb_world.specs.World.{Sound};
+ghost use Rattle.extra_answers.specs.Answers as answers;
+ghost use Rattle.extra_answers.specs.Entries as entries;
+
+use crate::naming::{name_of, planned_for, system_named};
+use report::proof_text;
+use spb_types::{EntryWord, Name, NoMemory, VidPlan, ect_mask};
+use spb_world::World;
+use std::alloc::Global;
+use what_if::{Entry, prove};
+
+/// An entry, by the name of its bridge.
+fn word_of(world: &World, entry: &Entry) -> EntryWord
+    ensures { result ≡ entries.word_of world.now.bridges entry.now }
+{
+    match entry {
+        Entry::Start => EntryWord::Start,
+        Entry::Before(system) => match name_of(world, *system) {
+            None => EntryWord::Unreached,
+            Some(name) => EntryWord::Before(name),
+        },
+        Entry::Unreached => EntryWord::Unreached,
+    }
+}
+
+/// Entries, by the names of their bridges.
+fn words_of(alloc: Global, world: &World, list: &[Entry]) -> Result<Vec<EntryWord>, NoMemory>
+    ensures { IfOk result (λ words. words.items ≡ entries.words_of world.now.bridges list.now) }
+{
+    let words = list
+        .iter()
+        .map(|entry| word_of(world, entry))
+        .collect(alloc)?;
+    Ok(words)
+}
+
+/// The entries that prove the best paths from a bridge in a base VID.
+fn proved(
+    alloc: Global,
+    world: &World,
+    plan: VidPlan,
+    from: Name,
+) -> Result<Vec<EntryWord>, NoMemory>
+    requires sound { Sound world.now }
+    requires tree { IsTree plan }
+    ensures { IfOk result (λ words. words.items
+        ≡ entries.words_of world.now.bridges (answers.proved_entries world.now plan from)) }
+{
+    let graph = world.graph(alloc)?;
+    let list = prove(alloc, &graph, ect_mask(plan.ect), system_named(world, from))?;
+    words_of(alloc, world, list.as_slice())
+}
+
+/// The answer to what proves the best paths from a bridge in a base VID, among them the one to another.
+pub fn proof_answer(
+    alloc: Global,
+    world: &World,
+    from: Name,
+    to: Name,
+    vid: u64,
+) -> Result<Vec<u8>, NoMemory>
+    requires { Sound world.now }
+    ensures { IfOk result
+        (λ text. text.items ≡ answers.proof_in world.now from to (answers.planned_for world.now.vids vid)) }
+{
+    let Some(plan) = planned_for(world, vid) else {
+        return Ok(Vec::new(alloc));
+    };
+    let words = proved(alloc, world, plan, from)?;
+    proof_text(alloc, from, to, plan.vid, words.as_slice())
+}

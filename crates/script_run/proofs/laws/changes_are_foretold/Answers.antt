@@ -1,0 +1,5 @@
+use Rattle.script_run.proofs.Foretold.{changes_are_foretold}
+use Rattle.script_run.proofs.laws.changes_are_foretold.Goals as goal
+
+pub returns : goal.returns
+returns c = changes_are_foretold
