@@ -1,6 +1,6 @@
 -- Both ends of a link that is up, in one round in which nothing is lost: each hears the other's hello, and goes on by the
 -- table of RFC 5303, 3.2.
-use Rattle.std.proofs.Common.{◌≡◌, ◌≢◌, ◌⊎◌, inl, inr, ℕ, zero, suc, ◌+◌, ◌-◌, ◌≤◌, ◌<◌, Bool, true, false, List, [], ◌∷◌, length, refl, sym, ap, ◌∙◌, subst, Option, Some, None, slice_get, cond, arith}
+use Rattle.std.proofs.Common.{◌≡◌, ◌≢◌, ℕ, zero, suc, ◌+◌, ◌-◌, ◌≤◌, Bool, true, false, List, [], ◌∷◌, refl, sym, ap, ◌∙◌, subst, Option, Some, None, slice_get, cond, arith}
 use Rattle.std.specs.Prelude.{Contains, count_by, is_some, if◌then◌else◌, ◌==◌, ◌&&◌}
 use Rattle.std.specs.Option.{option_map, option_map_or, option_and_then}
 use Rattle.std.proofs.lemmas.List.Sums.{sum_by-cons}
@@ -15,18 +15,18 @@ use Rattle.spb_tlvs.specs.RoundTrip.{IsNamed}
 use Rattle.adjacency.specs.declared.port.Adjacency.{Adjacency}
 use Rattle.adjacency.specs.declared.state.AdjState.{AdjState}
 use Rattle.adjacency.specs.declared.state.AdjState.TheVariants.{Down, Initializing, Up}
-use Rattle.adjacency.specs.Hearing.{End, sender}
+use Rattle.adjacency.specs.Hearing.{End}
 use Rattle.adjacency.specs.States.{state_number, state_numbered, next_state}
-use Rattle.adjacency.specs.Adjacency.{neighbour_of, kept_in, is_up, is_down, down, after_second, after_hello, said}
+use Rattle.adjacency.specs.Adjacency.{neighbour_of, is_up, is_down, down, after_second, after_hello}
 use Rattle.bridge_api.specs.declared.port.BridgePort.{BridgePort}
 use Rattle.bridge_api.specs.View.{BridgeView, IsPort, port_at, adjacency_at, neighbour_at, is_up_in, is_up_at, has_carrier_in, has_carrier_at}
 use Rattle.bridge_api.specs.Parsing.{Parsed, parsed, hello_in, is_hello}
 use Rattle.bridge_api.specs.Parsing as parsing
 use Rattle.bridge_api.specs.Step.{second, step, sent, frames_at}
-use Rattle.bridge_api.specs.Laws.{IsSoundView, IsHelloOf, IsHelloHeard}
+use Rattle.bridge_api.specs.Laws.{IsHelloOf, IsHelloHeard}
 use Rattle.bridge_api.proofs.Places.{port_found}
-use Rattle.bridge_rounds.specs.Hellos.{IsHelloTowards, IsKeptFresh}
-use Rattle.bridge_rounds.specs.Inbox.{Inbox, heard_all, after_round}
+use Rattle.bridge_rounds.specs.Hellos.{IsHelloTowards}
+use Rattle.bridge_rounds.specs.Inbox.{Inbox, after_round}
 use Rattle.bridge_rounds.proofs.HelloMoves.{one_hello_moves}
 use Rattle.bridge_rounds.proofs.Towards.{towards_kept}
 use Rattle.spb_world.specs.declared.declaration.DeclaredLink.{DeclaredLink}
@@ -34,14 +34,14 @@ use Rattle.spb_world.specs.Links.{near_end, far_end, lane_out, is_live}
 use Rattle.spb_world.proofs.SoundLaneIds.{turned, lane_of_end}
 use Rattle.network_model.specs.State.{State, links_of}
 use Rattle.network_model.specs.Events.{all_ticked}
-use Rattle.network_model.specs.Sound.{IsSoundState, IsHelloTo, LinkAgrees, end_at, ends_live_link}
+use Rattle.network_model.specs.Sound.{IsSoundState, IsHelloTo, LinkAgrees, end_at}
 use Rattle.network_model.proofs.BridgeLaws.{one_hello, hellos_are_heard}
 use Rattle.network_model.proofs.CountedMoves.{views_apart, can_name}
 use Rattle.network_model.proofs.FitsLemmas.{link_there, near_is_port}
 use Rattle.network_model.proofs.Linked.{get_within}
 use Rattle.network_model.proofs.SoundEvents.{core_of}
 use Rattle.network_rounds.specs.Rounds.{IsHeardRound}
-use Rattle.network_rounds.specs.Steady.{inbox_of, HearAll, IsKeptUp, AreUp}
+use Rattle.network_rounds.specs.Steady.{inbox_of, HearAll}
 use Rattle.network_rounds.proofs.BridgeLaws.{seconds_lower}
 use Rattle.network_rounds.proofs.Coming.{sent_contained}
 use Rattle.network_rounds.proofs.Passing.{sound_at, ticked_sound, ticked_there, ticked_view, near_view}

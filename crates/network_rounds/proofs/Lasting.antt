@@ -1,6 +1,6 @@
 -- What is live lasts: a second takes one second of it, or it is originated anew; and what is heard lasts as long as its
 -- sender's.
-use Rattle.std.proofs.Common.{◌≡◌, ◌≢◌, ◌⊎◌, inl, inr, ℕ, zero, suc, ◌+◌, ◌-◌, ◌*◌, ◌≤◌, ◌<◌, Bool, true, false, List, [], ◌∷◌, refl, sym, ap, ◌∙◌, subst, Option, Some, None, slice_get, arith}
+use Rattle.std.proofs.Common.{◌≡◌, ◌≢◌, ◌⊎◌, inl, inr, ℕ, zero, suc, ◌+◌, ◌-◌, ◌*◌, ◌≤◌, ◌<◌, Bool, true, false, List, refl, sym, ap, ◌∙◌, subst, Option, Some, None, slice_get, arith}
 use Rattle.std.specs.Str.{bytes_eq}
 use Rattle.std.proofs.lemmas.Slice.Eq.{bytes_eq-Decides}
 use Rattle.std.specs.FinMap.{get}
@@ -8,9 +8,7 @@ use Rattle.std.proofs.lemmas.Bool.{true≢false}
 use Rattle.std.proofs.lemmas.Option.{same_Some}
 use Rattle.link_model.specs.Lane.{Frame, IsIn}
 use Rattle.link_model.specs.Lanes.{lane_of}
-use Rattle.link_model.specs.declared.lanes.LinkLanes.{LinkLanes}
 use Rattle.spb_types.specs.declared.address.LspId.{LspId}
-use Rattle.spb_types.specs.declared.address.SystemId.{SystemId}
 use Rattle.spb_types.specs.declared.address.BridgeId.{BridgeId}
 use Rattle.spb_types.specs.declared.link.Dir.{Dir}
 use Rattle.isis_pdu.specs.Pdu.{LspValue}
@@ -19,7 +17,7 @@ use Rattle.lsdb.specs.Version.{number_of}
 use Rattle.lsdb.specs.Entry.{Entry}
 use Rattle.lsdb.specs.Database.{version_in, version_at}
 use Rattle.lsdb.specs.Time.{lifetime_in, is_live}
-use Rattle.flooding.specs.Own.{last_number, own_numbers, own_number, is_own_number, IsOwnNumber}
+use Rattle.flooding.specs.Own.{last_number, own_numbers, own_number, is_own_number}
 use Rattle.flooding.specs.Hearing.{claim_of}
 use Rattle.flooding.specs.Settling.{IsLspCurrent}
 use Rattle.flooding.specs.declared.origination.TheConstants.{MAX_AGE}
@@ -28,20 +26,20 @@ use Rattle.bridge_api.specs.View.{BridgeView}
 use Rattle.bridge_api.specs.Own.{body_at, own_entry}
 use Rattle.bridge_api.specs.Parsing.{Parsed, parsed}
 use Rattle.bridge_api.specs.Parsing as parsing
-use Rattle.bridge_api.specs.Step.{second, frame, step, sent}
-use Rattle.bridge_api.specs.Laws.{IsSoundView, IsSent, IsFrameOf}
+use Rattle.bridge_api.specs.Step.{second, frame, step}
+use Rattle.bridge_api.specs.Laws.{IsSoundView, IsFrameOf}
 use Rattle.bridge_api.specs.Time.{AgedFrom, stays, dies, own_sequence_number}
 use Rattle.bridge_api.proofs.Certified.{steps_keep_bridge}
 use Rattle.bridge_api.proofs.TimeLsps.{seconds_age}
 use Rattle.bridge_laws.specs.Counting.{lsp_said}
 use Rattle.bridge_laws.proofs.TimeOwn.{live_in, seconds_stand_still, seconds_renew}
 use Rattle.bridge_rounds.specs.Hearing.{LivedAt, keeps, stores, renews, ends}
-use Rattle.bridge_rounds.specs.Inbox.{Inbox, after_round}
+use Rattle.bridge_rounds.specs.Inbox.{after_round}
 use Rattle.bridge_rounds.proofs.Folds.{mail_keeps}
 use Rattle.bridge_rounds.proofs.LivedLsps.{frames_keep_living}
 use Rattle.bridge_rounds.proofs.OwnLives.{own_lives}
 use Rattle.spb_world.proofs.BoxLemmas.{All-get}
-use Rattle.spb_world.specs.Links.{near_end, far_end}
+use Rattle.spb_world.specs.Links.{near_end}
 use Rattle.network_model.specs.State.{State}
 use Rattle.network_model.specs.Events.{all_ticked}
 use Rattle.network_model.specs.Sound.{IsSoundState}

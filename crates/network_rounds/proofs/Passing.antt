@@ -1,5 +1,5 @@
 -- One round, and any number of them: which ids are held, and that nothing is lost once the lanes were empty.
-use Rattle.std.proofs.Common.{◌≡◌, ◌≢◌, ◌⊎◌, inl, inr, ℕ, zero, suc, ◌+◌, ◌*◌, ◌≤◌, ◌<◌, Bool, true, false, List, [], ◌∷◌, length, refl, sym, ap, ◌∙◌, subst, Option, Some, None, slice_get, arith}
+use Rattle.std.proofs.Common.{◌≡◌, ◌≢◌, ◌⊎◌, inl, inr, ℕ, zero, suc, ◌≤◌, false, List, [], length, refl, sym, ap, ◌∙◌, subst, Option, Some, None, slice_get, arith}
 use Rattle.std.specs.Prelude.{Contains, IsSome}
 use Rattle.std.specs.List.{AllByRecursion}
 use Rattle.std.specs.Option.{option_map}
@@ -15,22 +15,21 @@ use Rattle.lsdb.specs.declared.version.Version.{Version}
 use Rattle.lsdb.specs.declared.version.Version.TheVariants.{Absent, Live, Dead}
 use Rattle.lsdb.specs.Version.{leq, IsAtMost}
 use Rattle.lsdb.specs.Entry.{Entry}
-use Rattle.lsdb.specs.Database.{version_in, version_at}
+use Rattle.lsdb.specs.Database.{version_in}
 use Rattle.lsdb.specs.Certificate.{IsClaimed}
 use Rattle.bridge_api.specs.View.{BridgeView, IsPort}
 use Rattle.bridge_api.specs.Parsing.{parsed, is_carrying}
-use Rattle.bridge_api.specs.Step.{second, step, sent, frames_at}
+use Rattle.bridge_api.specs.Step.{second, step, sent}
 use Rattle.bridge_api.specs.Laws.{IsSoundView, IsSent, claims_said}
 use Rattle.bridge_api.proofs.Sound.{steps_stay_sound}
-use Rattle.bridge_rounds.specs.Inbox.{Inbox, heard_all, after_round, claims_at, IsMail, HoldsWithin}
-use Rattle.bridge_rounds.specs.Seconds.{snps_for}
+use Rattle.bridge_rounds.specs.Inbox.{Inbox, after_round, IsMail, HoldsWithin}
 use Rattle.bridge_rounds.proofs.Folds.{claim_comes}
 use Rattle.bridge_rounds.proofs.MailFits.{few_held}
 use Rattle.spb_world.proofs.BoxLemmas.{All-get}
 use Rattle.spb_world.specs.World.{World, things_of}
 use Rattle.spb_world.specs.declared.declaration.DeclaredLink.{DeclaredLink}
 use Rattle.spb_world.specs.Links.{near_end, far_end}
-use Rattle.network_model.specs.State.{State, links_of, lane_at}
+use Rattle.network_model.specs.State.{State, links_of}
 use Rattle.network_model.specs.Events.{all_ticked}
 use Rattle.network_model.specs.Sound.{IsSoundState, IsFrameFrom, LinkAgrees}
 use Rattle.network_model.specs.Quiet.{AreEmpty}
@@ -39,8 +38,8 @@ use Rattle.network_model.proofs.Linked.{far_view}
 use Rattle.network_model.proofs.SoundEvents.{Sound-ticked_from}
 use Rattle.network_model.proofs.SoundLane.{All-in}
 use Rattle.network_rounds.specs.Premises.{most_ids}
-use Rattle.network_rounds.specs.Rounds.{inbox, HasNoCustomers, IsHeardRound, IsRoundOf, AreRounds}
-use Rattle.network_rounds.specs.Steady.{IsReadyFor, ids_of, HoldOnly, inbox_of, HearAll, LosesNothing, NothingIsLost}
+use Rattle.network_rounds.specs.Rounds.{HasNoCustomers, IsHeardRound, IsRoundOf, AreRounds}
+use Rattle.network_rounds.specs.Steady.{IsReadyFor, ids_of, HoldOnly, inbox_of, LosesNothing, NothingIsLost}
 use Rattle.network_rounds.proofs.Along.{AreSame, same_sound, round_sound}
 use Rattle.network_rounds.proofs.BridgeLaws.{seconds_carry_none, rounds_hold_ids, seconds_send_at_port, mail_holds_within}
 use Rattle.network_rounds.proofs.Coming.{ComesOver, each_comes, of_each, to_each, in_ticked}

@@ -1,16 +1,15 @@
 -- What the premises say: of the lanes, of what is held, and of how many ids there are.
 use Rattle.std.proofs.Common.{◌≡◌, ◌⊎◌, inl, inr, ℕ, zero, suc, ◌+◌, ◌<◌, ◌≤◌, Bool, true, false, List, [], ◌∷◌, ◌++◌, length, map, refl, sym, ap, ◌∙◌, subst, Option, Some, None, slice_get, if◌then◌else◌, cond, arith}
 use Rattle.std.proofs.lemmas.Option.{same_Some}
-use Rattle.std.specs.Prelude.{Contains, not, ◌&&◌, ◌||◌, nat_lt}
-use Rattle.std.specs.List.{list_all, list_any}
+use Rattle.std.specs.Prelude.{Contains, not, ◌&&◌, ◌||◌}
+use Rattle.std.specs.List.{list_all}
 use Rattle.std.specs.FinMap.{get, entries, get-entries, find}
 use Rattle.std.specs.Ordering.{is_eq}
 use Rattle.std.proofs.lemmas.Bool.{and_parts, ltb-true, leb-true}
 use Rattle.link_model.specs.Lane.{Frame, IsIn}
-use Rattle.link_model.specs.Lanes.{lane_in, lane_of}
+use Rattle.link_model.specs.Lanes.{lane_of}
 use Rattle.link_model.specs.declared.lanes.LinkLanes.{LinkLanes}
 use Rattle.spb_types.specs.declared.address.LspId.{LspId}
-use Rattle.spb_types.specs.declared.address.SystemId.{SystemId}
 use Rattle.spb_types.specs.declared.link.Dir.{Dir}
 use Rattle.spb_types.specs.declared.link.Dir.TheVariants.{Ab, Ba}
 use Rattle.isis_pdu.specs.Pdu.{LspValue}
@@ -20,19 +19,19 @@ use Rattle.lsdb.specs.Entry.{Entry}
 use Rattle.lsdb.specs.Database.{Lsps, id_cmp, version_in}
 use Rattle.lsdb.proofs.LookupLemmas.{tied_is}
 use Rattle.lsdb.specs.Time.{lifetime_in, is_live}
-use Rattle.flooding.specs.Own.{own_numbers, own_number, is_own_number}
+use Rattle.flooding.specs.Own.{own_number, is_own_number}
 use Rattle.flooding.specs.Hearing.{claim_of}
 use Rattle.flooding.proofs.OwnNumbers.{its_own}
 use Rattle.snp_sync.specs.Hearing.{is_among}
 use Rattle.bridge_api.specs.View.{BridgeView}
-use Rattle.bridge_api.specs.Parsing.{Parsed, parsed, is_carrying}
+use Rattle.bridge_api.specs.Parsing.{parsed, is_carrying}
 use Rattle.bridge_api.specs.Parsing as parsing
 use Rattle.network_model.specs.State.{State}
 use Rattle.network_model.proofs.QuietLists.{each_of}
 use Rattle.network_model.proofs.SoundLane.{All-from}
 use Rattle.network_rounds.specs.Premises.{passes, holds_only, is_plain, has_no_customers, outlives, entry_outlives, is_lasting, outlive, own_outlives, owns_outlive, ids_held, different_ids, most_ids, has_few_ids, is_ready}
 use Rattle.network_rounds.specs.Rounds.{HasNoCustomers}
-use Rattle.network_rounds.specs.Steady.{IsReadyFor, ids_of, HoldOnly, HasLifeLeft, HaveLifeLeft}
+use Rattle.network_rounds.specs.Steady.{ids_of, HoldOnly, HaveLifeLeft}
 
 -- ---- the four premises
 

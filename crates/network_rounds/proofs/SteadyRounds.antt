@@ -1,21 +1,18 @@
 -- From the end of round 4 on both ends of each link that is up are Up with each other, and each round is a steady one.
-use Rattle.std.proofs.Common.{◌≡◌, ◌≢◌, ◌⊎◌, inl, inr, ℕ, zero, suc, ◌+◌, ◌-◌, ◌*◌, ◌≤◌, ◌<◌, Bool, true, false, List, [], ◌∷◌, length, refl, sym, ap, ◌∙◌, subst, Option, Some, None, slice_get, arith}
+use Rattle.std.proofs.Common.{◌≡◌, ◌≢◌, ℕ, zero, suc, ◌-◌, ◌≤◌, true, false, List, length, refl, sym, ap, ◌∙◌, subst, Option, Some, None, slice_get, arith}
 use Rattle.std.specs.Prelude.{Contains, nat_lt, not, ◌&&◌}
 use Rattle.std.specs.List.{AllByRecursion}
 use Rattle.std.specs.Option.{option_map, option_map_or}
 use Rattle.std.proofs.lemmas.Bool.{true≢false}
 use Rattle.std.proofs.lemmas.Option.{same_Some}
-use Rattle.link_model.specs.Lane.{Frame, IsIn}
-use Rattle.link_model.specs.Lanes.{lane_of}
+use Rattle.link_model.specs.Lane.{Frame}
 use Rattle.link_model.specs.declared.lanes.LaneId.{LaneId}
-use Rattle.link_model.specs.declared.lanes.LinkLanes.{LinkLanes}
 use Rattle.spb_types.specs.declared.address.LspId.{LspId}
 use Rattle.spb_types.specs.declared.address.BridgeId.{BridgeId}
 use Rattle.spb_types.specs.declared.link.Dir.{Dir}
 use Rattle.spb_types.specs.declared.link.Dir.TheVariants.{Ab, Ba}
 use Rattle.isis_pdu.specs.Pdu.{HelloValue, CsnpValue}
 use Rattle.spb_tlvs.specs.declared.three_way.ThreeWay.{ThreeWay}
-use Rattle.flooding.specs.Own.{own_numbers}
 use Rattle.adjacency.specs.declared.port.Adjacency.{Adjacency}
 use Rattle.adjacency.specs.declared.state.AdjState.{AdjState}
 use Rattle.adjacency.specs.declared.state.AdjState.TheVariants.{Up}
@@ -27,8 +24,8 @@ use Rattle.bridge_api.specs.Parsing.{parsed}
 use Rattle.bridge_api.specs.Parsing as parsing
 use Rattle.bridge_api.specs.Hearing.{with_csnp_due}
 use Rattle.bridge_api.specs.Ticking.{readied, after_tick}
-use Rattle.bridge_api.specs.Step.{second, step, sent, frames_at}
-use Rattle.bridge_api.specs.Laws.{IsSoundView, IsSent, IsFrameOf, IsHelloOf}
+use Rattle.bridge_api.specs.Step.{second, step, sent}
+use Rattle.bridge_api.specs.Laws.{IsSent, IsFrameOf, IsHelloOf}
 use Rattle.bridge_api.proofs.Certified.{steps_keep_bridge}
 use Rattle.bridge_api.proofs.Serving.{seconds_leave_nothing_due}
 use Rattle.bridge_rounds.specs.FlagLaws.{HasNoCsnp}
@@ -54,7 +51,7 @@ use Rattle.network_model.proofs.Linked.{far_view}
 use Rattle.network_model.proofs.QuietStates.{up_is_linked}
 use Rattle.network_rounds.specs.Premises.{most_ids}
 use Rattle.network_rounds.specs.Rounds.{IsHeardRound, IsRoundOf, AreRounds}
-use Rattle.network_rounds.specs.Steady.{IsReadyFor, ids_of, inbox_of, HearAll, LosesNothing, IsKeptUp, AreUp, HaveNoneDue, IsSteadyState, IsSteadyFor, IsSteadyOver, LinksComeUp, RoundsAreSteady}
+use Rattle.network_rounds.specs.Steady.{IsReadyFor, ids_of, inbox_of, HearAll, IsKeptUp, AreUp, HaveNoneDue, IsSteadyState, IsSteadyFor, IsSteadyOver, LinksComeUp, RoundsAreSteady}
 use Rattle.network_rounds.proofs.Along.{AreSame, round_sound, rounds_stay_counted, rounds_have_last}
 use Rattle.network_rounds.proofs.BridgeLaws.{seconds_are_calm, summaries_are_due}
 use Rattle.network_rounds.proofs.Heard.{all_tick_world}

@@ -8,10 +8,10 @@ use Rattle.adjacency.specs.declared.state.AdjacencyChange.TheVariants.{Kept, Dis
 use Rattle.adjacency.specs.Hearing.{End}
 use Rattle.adjacency.specs.Adjacency.{after_hello, change_by_hello}
 use Rattle.bridge_api.specs.declared.port.BridgePort.{BridgePort}
-use Rattle.bridge_api.specs.View.{BridgeView, IsPort, port_in, port_at, neighbour_at, is_up_at, has_carrier_in, has_carrier_at, is_csnp_due_in, is_csnp_due_at}
+use Rattle.bridge_api.specs.View.{BridgeView, IsPort, port_in, port_at, has_carrier_in, has_carrier_at, is_csnp_due_in, is_csnp_due_at}
 use Rattle.bridge_api.specs.Own.{body_at}
 use Rattle.bridge_api.specs.Hearing.{with_adjacency}
-use Rattle.bridge_api.specs.Ports.{noted, heard_hello_port}
+use Rattle.bridge_api.specs.Ports.{noted}
 use Rattle.bridge_api.specs.Step.{frame, step}
 use Rattle.bridge_api.proofs.Carriers.{steps_keep_carrier}
 use Rattle.bridge_api.proofs.Certified.{steps_keep_bridge}
