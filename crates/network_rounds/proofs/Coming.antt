@@ -122,6 +122,7 @@ sent_contained p (x ∷ fs) f goes = by (x.0 == p) refl goes (sent_contained p f
   where
     behind : (g : Frame) (gs : List Frame) → Contains gs f → Contains (g ∷ gs) f
     behind g gs (k, low, is) = (suc k, omega (arith, low), is)
+
     by : (b : Bool) → (x.0 == p) ≡ b → ((x.0 ≡ p) × (x.1 ≡ f)) ⊎ IsSent fs p f → (IsSent fs p f → Contains (frames_at p fs) f) → Contains (if b then x.1 ∷ frames_at p fs else frames_at p fs) f
     by true e (inl at) rest = (zero, omega arith, at.1)
     by true e (inr more) rest = behind x.1 (frames_at p fs) (rest more)

@@ -162,10 +162,13 @@ module _ (s : State) (sound : IsSoundState s) (k : ℕ) (dir : Dir) (l : Declare
     (near : slice_get s.views (near_end dir l).bridge ≡ Some v) (far : slice_get s.views (far_end dir l).bridge ≡ Some w) where
   abbrev q : ℕ
   q = (near_end dir l).port
+
   abbrev p : ℕ
   p = (far_end dir l).port
+
   abbrev u : BridgeView
   u = step second v
+
   abbrev x : BridgeView
   x = step second w
 

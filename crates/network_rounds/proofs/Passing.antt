@@ -190,16 +190,18 @@ empty_plain s empty k dir = subst (λ (lane : List Frame). AllByRecursion (λ by
 pub passes_round : (ids : List LspId) (s t : State) → Passes ids s → IsRoundOf s t → Passes ids t × AreEmpty t
 passes_round ids s t was is =
     let heard = heard_round s t was.sound was.plain is in
-    let empty : AreEmpty t = heard.lanes in
-    (record {
-      sound = round_sound s t is was.sound;
-      plain = empty_plain t empty;
-      only = λ i w at.
-          let before = heard_view s t i w heard at in
-          let v = before.0 in
-          subst (HoldsWithin ids) (sym before.2)
-          (mail_holds_within ids (step second v) (inbox_of s i) (second_sound s was.sound i v before.1) (mail_of s was.sound ids was.plain was.only i v before.1) (second_only s was.sound ids was.plain was.only i v before.1)).1;
-    }, empty)
+    let empty : AreEmpty t = heard.lanes in (
+      record {
+        sound = round_sound s t is was.sound;
+        plain = empty_plain t empty;
+        only = λ i w at.
+            let before = heard_view s t i w heard at in
+            let v = before.0 in
+            subst (HoldsWithin ids) (sym before.2)
+            (mail_holds_within ids (step second v) (inbox_of s i) (second_sound s was.sound i v before.1) (mail_of s was.sound ids was.plain was.only i v before.1) (second_only s was.sound ids was.plain was.only i v before.1)).1;
+      },
+      empty,
+    )
 
 pub passes_same : (ids : List LspId) (s t : State) → AreSame s t → Passes ids s → Passes ids t
 passes_same ids s t same was = record {

@@ -189,7 +189,7 @@ module _ (d m k : ℕ) (s u : State) (is : IsReached d m k s u) where
           let held : held_at u i id ≡ version_at v.database id = ap (λ (o : Option BridgeView). option_map_or (λ v. version_at v.database id) o Absent) at in
           sym (ap (λ (o : Option BridgeView). option_map_or (λ v. version_at v.database id) o Absent) at_next)
           ∙ (stands ids (m - k) (is.ready.allowance + 128 * k) u t (record { state = state; round = calm_round; heard = heard; counted = counted }) i id
-            (λ j link. beside j link held)
+          (λ j link. beside j link held)
           ∙ held)
         where
           beside : (j : ℕ) → AreLinked (links_of u) j i → held_at u i id ≡ version_at v.database id → IsAtMost (held_at u j id) (held_at u i id)

@@ -132,17 +132,17 @@ module _ (ids : List LspId) (few : length ids ≤ most_ids) where
       let clear_c = clear_round b c clear_b.passes two in
       are_up d (round_sound c d three clear_c.passes.sound)
       (λ k l there live.
-        let at_c = there_before c d k l clear_c three there in
-        let at_b = there_before b c k l clear_b two at_c in
-        let at_a = there_before a b k l clear one at_b in
-        let first = meet_first a b clear.passes.sound (hear_of a clear) (heard_of a b clear one) k l at_a live in
-        let x : AdjState = first.0 in
-        let y : AdjState = first.1 in
-        let x2 : AdjState = next_state x y in
-        let y2 : AdjState = next_state y x in
-        let next = meet_next b c clear_b.passes.sound (hear_of b clear_b) (heard_of b c clear_b two) k l at_b live x2 y2 first.2 in
-        let last = meet_next c d clear_c.passes.sound (hear_of c clear_c) (heard_of c d clear_c three) k l at_c live (next_state x2 y2) (next_state y2 x2) next in
-        subst (λ (z : AdjState). Meets d l Up z) (thrice y x) (subst (λ (z : AdjState). Meets d l z (next_state (next_state y2 x2) (next_state x2 y2))) (thrice x y) last))
+      let at_c = there_before c d k l clear_c three there in
+      let at_b = there_before b c k l clear_b two at_c in
+      let at_a = there_before a b k l clear one at_b in
+      let first = meet_first a b clear.passes.sound (hear_of a clear) (heard_of a b clear one) k l at_a live in
+      let x : AdjState = first.0 in
+      let y : AdjState = first.1 in
+      let x2 : AdjState = next_state x y in
+      let y2 : AdjState = next_state y x in
+      let next = meet_next b c clear_b.passes.sound (hear_of b clear_b) (heard_of b c clear_b two) k l at_b live x2 y2 first.2 in
+      let last = meet_next c d clear_c.passes.sound (hear_of c clear_c) (heard_of c d clear_c three) k l at_c live (next_state x2 y2) (next_state y2 x2) next in
+      subst (λ (z : AdjState). Meets d l Up z) (thrice y x) (subst (λ (z : AdjState). Meets d l z (next_state (next_state y2 x2) (next_state x2 y2))) (thrice x y) last))
 
   up_on : (k : ℕ) (s t : State) → AreRounds k s t → Clear s → AreUp s → AreUp t
   up_on zero s t are clear up = up_same s t (record { world = are.0; views = are.1; lanes = are.2 }) up
@@ -151,8 +151,8 @@ module _ (ids : List LspId) (few : length ids ≤ most_ids) where
       let next = clear_round s parts.mid clear.passes parts.one in
       up_on k parts.mid t parts.more next
       (are_up parts.mid next.passes.sound (λ place l there live.
-        let at = there_before s parts.mid place l clear parts.one there in
-        meet_next s parts.mid clear.passes.sound (hear_of s clear) (heard_of s parts.mid clear parts.one) place l at live Up Up (meets_up s place l clear.passes.sound up at live)))
+      let at = there_before s parts.mid place l clear parts.one there in
+      meet_next s parts.mid clear.passes.sound (hear_of s clear) (heard_of s parts.mid clear parts.one) place l at live Up Up (meets_up s place l clear.passes.sound up at live)))
 
   up_from : (k : ℕ) (s t : State) → AreRounds (suc (suc (suc (suc k)))) s t → Passes ids s → AreUp t
   up_from k s t are was =
@@ -230,6 +230,7 @@ module _ (ids : List LspId) (m : ℕ) (s : State) (steady : IsSteadyState ids m 
       (near : slice_get s.views (near_end dir l).bridge ≡ Some v) (far : slice_get s.views (far_end dir l).bridge ≡ Some w) where
     abbrev q : ℕ
     q = (near_end dir l).port
+
     abbrev p : ℕ
     p = (far_end dir l).port
 
@@ -369,6 +370,8 @@ none_due_from m k s t start are low le =
 
 pub links_come_up : LinksComeUp
 links_come_up m k s t start are low le =
-    let whole : k ≡ suc (k - 1) = omega (arith, low) in
-    (steady_after m k s t start are low le, λ more.
-      none_due_from m (k - 1) s t (subst (λ (n : ℕ). IsReadyFor m n s) whole start) (subst (λ (n : ℕ). AreRounds n s t) whole are) (omega (arith, more)) (omega (arith, whole, le)))
+    let whole : k ≡ suc (k - 1) = omega (arith, low) in (
+      steady_after m k s t start are low le,
+      λ more.
+          none_due_from m (k - 1) s t (subst (λ (n : ℕ). IsReadyFor m n s) whole start) (subst (λ (n : ℕ). AreRounds n s t) whole are) (omega (arith, more)) (omega (arith, whole, le)),
+    )

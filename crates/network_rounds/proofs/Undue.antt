@@ -83,10 +83,10 @@ due_after (f ∷ fs) v stay p =
     let u : BridgeView = step (frame f.0 f.1) v in
     let ports = (steps_keep_bridge (frame f.0 f.1) v).ports in
     let here : has_carrier_at v f.0 ≡ true → (n : End) × (IsUpWith f.0 n v × IsUpWith f.0 n u) = λ carrier.
-        let k = stay f.0 (carrier_port v f.0 carrier) carrier in
-        (k.0, (record { up = k.1.0; neighbour = k.1.1 }, first_up f.0 k.0 fs u k.1.2)) in
+    let k = stay f.0 (carrier_port v f.0 carrier) carrier in
+    (k.0, (record { up = k.1.0; neighbour = k.1.1 }, first_up f.0 k.0 fs u k.1.2)) in
     due_after fs u (λ r port carrier.
-      let was : IsPort v r = record { low = port.low; high = subst (λ n. r ≤ n) ports port.high } in
-      let k = stay r was (sym (steps_keep_carrier (frame f.0 f.1) v r was) ∙ carrier) in
-      (k.0, k.1.2)) p
+    let was : IsPort v r = record { low = port.low; high = subst (λ n. r ≤ n) ports port.high } in
+    let k = stay r was (sym (steps_keep_carrier (frame f.0 f.1) v r was) ∙ carrier) in
+    (k.0, k.1.2)) p
     ∙ frame_due v f.0 f.1 here p
