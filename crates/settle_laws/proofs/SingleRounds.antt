@@ -160,13 +160,13 @@ left_is s t before left is from first =
     by false busy = first (was_busy busy)
 
 -- rounds that ended early end settling early
-pub settles_not : {B : Type 0} (shown : B → Shown) (old new : NetworkOf B) (before after : List Out) (e : ApplyError) → old.halted ≡ false
-    → settle_refusal (state_of shown old) ≡ None
-    → PlaysRounds (most_settling (state_of shown old)) (state_of shown old) before after (Err e) new.halted (state_of shown new)
+pub settles_not : {B : Type 0} (shown : B → Shown) (old new : NetworkOf B) (before after : List Out) (e : ApplyError) (most : ℕ) → most ≡ most_settling (state_of shown old)
+    → old.halted ≡ false → settle_refusal (state_of shown old) ≡ None → PlaysRounds most (state_of shown old) before after (Err e) new.halted (state_of shown new)
     → SettlesBy shown old before after (Err e) new
-settles_not shown old new before after error.NoMemory on room cut = (on, room, cut)
-settles_not shown old new before after (error.Refused reason) on room cut = absurd cut
-settles_not shown old new before after error.Halted on room cut = absurd cut
+settles_not shown old new before after error.NoMemory most all on room cut =
+    (on, room, subst (λ m. IsCutShort m (state_of shown old) before after new.halted (state_of shown new)) all cut)
+settles_not shown old new before after (error.Refused reason) most all on room cut = absurd cut
+settles_not shown old new before after error.Halted most all on room cut = absurd cut
 
 -- and before the first none was made
 pub none_made : (m : ℕ) (s : State) (before : List Out) (halted : Bool) → IsCutShort m s before before halted s
