@@ -1,22 +1,16 @@
--- What settling comes to, by the law of bounded settling; and what its code calls do.
-use Rattle.std.proofs.Common.{◌≡◌, ◌↔◌, ℕ, ◌+◌, ◌≤◌, Bool, true, false, true≢false, not, List, [], ◌++◌, refl, sym, ap, subst, ◌∙◌, arith, Option, Some, None, Result, Ok, Err, inl, inr}
+-- What settling comes to, by the law of bounded settling; and what becomes of a round that isn't made.
+use Rattle.std.proofs.Common.{◌≡◌, ℕ, ◌+◌, ◌≤◌, Bool, true, false, true≢false, not, List, ◌++◌, refl, sym, ap, subst, ◌∙◌, arith, Some, None, Ok, Err, inl, inr}
 use Rattle.std.specs.Prelude.{if◌then◌else◌, ◌&&◌, nat_le}
 use Rattle.std.proofs.lemmas.Bool.{cases_Bool}
 use Rattle.bridge_api.specs.Shown.{Shown}
 use Rattle.spb_world.specs.Reason.{reason_unless}
 use Rattle.spb_world.specs.declared.reason.Reason.TheVariants.{TooMany}
-use Rattle.network_model.specs.declared.answer.Answer.{Answer}
 use Rattle.network_model.specs.declared.answer.Out.{Out}
-use Rattle.network_model.specs.declared.delivered.Delivered.{Delivered}
-use Rattle.network_model.specs.Captured.{captured}
 use Rattle.network_model.specs.State.{State}
 use Rattle.network_model.specs.Questions.{is_quiet}
 use Rattle.network_model.specs.Quiet.{failing, IsQuiet}
-use Rattle.network_model.specs.Sound.{IsSoundState}
-use Rattle.network_model.specs.Counted.{IsCounted, most_commands}
-use Rattle.network_model.specs.Isolation.{outs_in}
-use Rattle.network_model.specs.Refusing.{refusal_of}
-use Rattle.network_model.specs.Play.{answer_of, played_all}
+use Rattle.network_model.specs.Counted.{most_commands}
+use Rattle.network_model.specs.Play.{played_all}
 use Rattle.network_model.proofs.QuietLists.{nil_of, of_nil}
 use Rattle.spb_types.specs.declared.limits.TheConstants.{MOST_ROUNDS}
 use Rattle.spb_network.specs.declared.network.NetworkOf.{NetworkOf}
@@ -25,13 +19,13 @@ use Rattle.spb_network.specs.declared.apply_error.ApplyError.TheVariants as erro
 use Rattle.spb_network.specs.Network.{state_of}
 use Rattle.spb_network.specs.Applying.{IsReady, IsSoundNetwork, Applies}
 use Rattle.network_rounds.specs.Premises.{is_ready, has_no_customers, outlive, owns_outlive, has_few_ids}
-use Rattle.network_rounds.specs.Settling.{most_settling, settling, settled, outs_of, rounds_made, settle_refusal}
-use Rattle.network_rounds.specs.SettlingLaws.{enough_for, SettlesInTime, NetworksSettle}
+use Rattle.network_rounds.specs.Settling.{most_settling, settling, settled, outs_of, settle_refusal}
+use Rattle.network_rounds.specs.SettlingLaws.{SettlesInTime, NetworksSettle}
 use Rattle.settle_laws.specs.declared.answers.Ready.{Ready}
 use Rattle.settle_laws.specs.declared.answers.Ready.TheVariants.{Yes, Frame as FrameFails, Lifetime, OwnLifetime, Ids}
 use Rattle.settle_laws.specs.declared.answers.Settled.{Settled}
 use Rattle.settle_laws.specs.Premises.{ready_of, first_failing}
-use Rattle.settle_laws.specs.Settling.{one_round, single_rounds, PlaysRound, PlaysRounds, IsSettled, SettlesBy, WatchesSettling, Notes, left_of, EndsInTime, LeftTells}
+use Rattle.settle_laws.specs.Settling.{one_round, single_rounds, PlaysRound, PlaysRounds, IsSettled, left_of, EndsInTime, LeftTells}
 use Rattle.settle_laws.proofs.SingleRounds.{one_accepted, left_is}
 
 -- ---- no premise fails

@@ -1,15 +1,9 @@
 -- How deliveries of rounds are noted, one round after another.
-use Rattle.std.proofs.Common.{◌≡◌, ℕ, zero, suc, ◌+◌, Bool, true, false, List, [], ◌∷◌, ◌++◌, append-nil, append_assoc, length, refl, sym, ap, subst, ◌∙◌, arith, Option, Some, None, Result, Ok, Err}
+use Rattle.std.proofs.Common.{◌≡◌, ℕ, zero, suc, ◌+◌, Bool, true, false, List, [], ◌∷◌, ◌++◌, append-nil, append_assoc, length, refl, sym, ap, subst, ◌∙◌, arith, Option, Some, None}
 use Rattle.std.specs.Prelude.{if◌then◌else◌}
 use Rattle.std.specs.List.{AllByRecursion}
 use Rattle.std.proofs.lemmas.Option.{same_Some}
-use Rattle.bridge_api.specs.Shown.{Shown}
-use Rattle.spb_network.specs.declared.network.NetworkOf.{NetworkOf}
-use Rattle.spb_network.specs.declared.apply_error.ApplyError.{ApplyError}
-use Rattle.spb_network.specs.Network.{state_of}
 use Rattle.network_model.specs.declared.delivered.Delivered.{Delivered}
-use Rattle.network_model.specs.declared.answer.Answer.{Answer}
-use Rattle.network_model.specs.declared.answer.Out.{Out}
 use Rattle.network_model.specs.State.{State}
 use Rattle.network_model.specs.Play.{next_state, played_all}
 use Rattle.network_model.specs.Captured.{seen_of, captured}
@@ -72,10 +66,3 @@ notes_more s t k before now after is far round =
           λ watched on.
           subst (AllByRecursion IsBrief) next (all_both IsBrief (captured s (single_rounds k)) (seen_of t one_round) (far.brief watched on) (round.brief (watched ++ captured s (single_rounds k)) (still_watched before now (captured s (single_rounds k)) watched far.seen on)));
     }
-
--- what is watched of a round
-pub notes_watched : (before after ds : List Delivered) → after ≡ before ++ ds → AllByRecursion IsBrief ds → Notes ds (Some before) (Some after)
-notes_watched before after ds is brief = record { seen = ap Some is; brief = λ watched on. brief }
-
-pub notes_unwatched : (ds : List Delivered) → Notes ds None None
-notes_unwatched ds = record { seen = refl; brief = λ watched on. absurd cc }

@@ -10,7 +10,7 @@ use Rattle.network_model.specs.Questions.{is_quiet}
 use Rattle.network_model.specs.Play.{next_state, answer_of, played_all}
 use Rattle.network_model.specs.Isolation.{outs_in}
 use Rattle.network_model.specs.declared.delivered.Delivered.{Delivered}
-use Rattle.network_model.specs.Captured.{seen_of, captured}
+use Rattle.network_model.specs.Captured.{captured}
 use Rattle.network_model.specs.Brief.{IsBrief}
 use Rattle.network_model.specs.Counted.{most_commands}
 use Rattle.network_model.specs.Quiet.{IsQuiet}

@@ -1,4 +1,4 @@
-use Rattle.std.proofs.Common.{◌≡◌, ◌<◌, ℕ, true, false, sym, ap, subst, ◌∙◌, arith}
+use Rattle.std.proofs.Common.{◌≡◌, true, false, sym, subst, ◌∙◌, arith}
 use Rattle.std.proofs.lemmas.Result.{err_from_is_err_and}
 use Rattle.network_model.specs.State.{State}
 use Rattle.network_model.specs.Questions.{is_quiet}
@@ -58,10 +58,12 @@ loop-made-preserved g c =
     let t : State = state_of g.B.Bridge.shown c.loop-made.network in
     let u : State = state_of g.B.Bridge.shown c.play_round.new.network in
     let busy : is_quiet t ≡ false = sym c.is_quiet.ensures ∙ c.if-is_quiet.false in
-    let round = c.in_ok-play_round.ensures.round in
-    (round.2, c.in_ok-play_round.ensures.ready,
-    so_far_more c.args.most s t u c.args.outs.now.items c.loop-made.outs.items c.play_round.new.outs.items c.loop-made.made c.loop-made.invariant.2 (omega (arith, c.loop-made-test.true)) busy round.0 round.1,
-    notes_more s t c.loop-made.made c.args.watch.now c.loop-made.watch c.play_round.new.watch c.loop-made.invariant.2.state c.loop-made.invariant.3 c.in_ok-play_round.ensures.notes)
+    let round = c.in_ok-play_round.ensures.round in (
+      round.2,
+      c.in_ok-play_round.ensures.ready,
+      so_far_more c.args.most s t u c.args.outs.now.items c.loop-made.outs.items c.play_round.new.outs.items c.loop-made.made c.loop-made.invariant.2 (omega (arith, c.loop-made-test.true)) busy round.0 round.1,
+      notes_more s t c.loop-made.made c.args.watch.now c.loop-made.watch c.play_round.new.watch c.loop-made.invariant.2.state c.loop-made.invariant.3 c.in_ok-play_round.ensures.notes,
+    )
 
 pub returns-clause-rounds : goal.returns-clause-rounds
 returns-clause-rounds g c =

@@ -1,7 +1,5 @@
-use Rattle.std.proofs.Common.{◌≡◌, ℕ, ◌+◌, true, false, None, Some, Ok, Err, refl, sym, ap, subst, ◌∙◌}
-use Rattle.std.specs.Prelude.{nat_le}
+use Rattle.std.proofs.Common.{true, false, Ok, refl, sym, subst, ◌∙◌}
 use Rattle.std.proofs.lemmas.Result.{err_from_is_err_and}
-use Rattle.spb_types.specs.declared.limits.TheConstants.{MOST_ROUNDS}
 use Rattle.network_model.specs.State.{State}
 use Rattle.network_rounds.specs.Settling.{most_settling}
 use Rattle.spb_network.specs.Network.{state_of}
@@ -12,19 +10,22 @@ use Rattle.settle_laws.proofs.settling.settle_noting.Goals as goal
 
 pub returns-then-not-are_rounds_left-clause-settles : goal.returns-then-not-are_rounds_left-clause-settles
 returns-then-not-are_rounds_left-clause-settles g c =
-    let s : State = state_of g.B.Bridge.shown c.args.network.now in
-    (sym c.is_halted.ensures ∙ c.if-is_halted.false,
-    is_refused s _ _ c.most_settling-most.ensures.most c.are_rounds_left.ensures c.if-not-are_rounds_left.true,
-    refl, refl)
+    let s : State = state_of g.B.Bridge.shown c.args.network.now in (
+      sym c.is_halted.ensures ∙ c.if-is_halted.false,
+      is_refused s _ _ c.most_settling-most.ensures.most c.are_rounds_left.ensures c.if-not-are_rounds_left.true,
+      refl,
+      refl,
+    )
 
 pub returns-in_err-before-clause-settles : goal.returns-in_err-before-clause-settles
 returns-in_err-before-clause-settles g c =
     let s : State = state_of g.B.Bridge.shown c.args.network.now in
     let p = err_from_is_err_and c.from_residual.result c.from_residual.ensures.1 in
     rw (p.1, p.2) (
-    sym c.is_halted.ensures ∙ c.if-is_halted.false,
-    is_accepted s _ _ c.most_settling-most.ensures.most c.are_rounds_left.ensures c.if-not-are_rounds_left.false,
-    none_made (most_settling s) s c.args.outs.now.items c.args.network.now.halted)
+      sym c.is_halted.ensures ∙ c.if-is_halted.false,
+      is_accepted s _ _ c.most_settling-most.ensures.most c.are_rounds_left.ensures c.if-not-are_rounds_left.false,
+      none_made (most_settling s) s c.args.outs.now.items c.args.network.now.halted,
+    )
 
 pub returns-in_err-rounds-clause-settles : goal.returns-in_err-rounds-clause-settles
 returns-in_err-rounds-clause-settles g c =
@@ -38,12 +39,13 @@ returns-in_err-rounds-clause-settles g c =
 pub returns-clause-settles : goal.returns-clause-settles
 returns-clause-settles g c =
     let s : State = state_of g.B.Bridge.shown c.args.network.now in
-    let played = subst (λ m. PlaysRounds m s c.args.outs.now.items c.play_rounds.new.outs.items (Ok c.in_ok-rounds.rounds) c.play_rounds.new.network.halted (state_of g.B.Bridge.shown c.play_rounds.new.network)) c.most_settling-most.ensures.most c.in_ok-rounds.ensures.rounds in
-    (sym c.is_halted.ensures ∙ c.if-is_halted.false,
-    is_settled g.B.Bridge.shown c.args.network.now c.play_rounds.new.network c.args.outs.now.items c.play_rounds.new.outs.items c.in_ok-rounds.rounds c.in_ok-before.before _
-    (is_accepted s _ _ c.most_settling-most.ensures.most c.are_rounds_left.ensures c.if-not-are_rounds_left.false)
-    played c.in_ok-before.ensures c.left.ensures,
-    played.3)
+    let played = subst (λ m. PlaysRounds m s c.args.outs.now.items c.play_rounds.new.outs.items (Ok c.in_ok-rounds.rounds) c.play_rounds.new.network.halted (state_of g.B.Bridge.shown c.play_rounds.new.network)) c.most_settling-most.ensures.most c.in_ok-rounds.ensures.rounds in (
+      sym c.is_halted.ensures ∙ c.if-is_halted.false,
+      is_settled g.B.Bridge.shown c.args.network.now c.play_rounds.new.network c.args.outs.now.items c.play_rounds.new.outs.items c.in_ok-rounds.rounds c.in_ok-before.before _
+          (is_accepted s _ _ c.most_settling-most.ensures.most c.are_rounds_left.ensures c.if-not-are_rounds_left.false)
+          played c.in_ok-before.ensures c.left.ensures,
+      played.3,
+    )
 
 pub returns-clause-in_time : goal.returns-clause-in_time
 returns-clause-in_time g c =
