@@ -127,7 +127,7 @@ so_far_all m s t before after k far end =
 pub so_far_cut : (m : ℕ) (s t u : State) (before after more : List Out) (k : ℕ) (halted : Bool) (e : ApplyError) → IsSoFar m s before k after t → k < m → is_quiet t ≡ false
     → PlaysRound t after more (Err e) halted u → PlaysRounds m s before more (Err e) halted u
 so_far_cut m s t u before after more k halted error.NoMemory far less busy round = record {
-  made = k + 1;
+  begun = k + 1;
   told = k;
   few = omega (arith, made_busy m s t before after k far less busy);
   within = omega arith;
@@ -171,7 +171,7 @@ settles_not shown old new before after error.Halted most all on room cut = absur
 -- and before the first none was made
 pub none_made : (m : ℕ) (s : State) (before : List Out) (halted : Bool) → IsCutShort m s before before halted s
 none_made m s before halted = record {
-  made = 0;
+  begun = 0;
   told = 0;
   few = omega arith;
   within = omega arith;
