@@ -3,3 +3,6 @@ mod Walks
 mod BothLanes
 mod HeldWalks
 mod IdCounts
+mod SingleRounds
+mod Watching
+mod Ending
