@@ -187,7 +187,7 @@ joined_few : (here later : List Command) (o : Option Refusal) (n : ℕ) → leng
 joined_few here later None n one more = omega (arith, one, more, length-append here later)
 joined_few here later (Some why) n one more = omega (arith, one)
 
-commands_few : (s : State) (number : ℕ) (ls : List (List ℕ)) → length (commands_in s number ls) ≤ length ls
+pub commands_few : (s : State) (number : ℕ) (ls : List (List ℕ)) → length (commands_in s number ls) ≤ length ls
 commands_few s number [] = omega arith
 commands_few s number (line ∷ ls) =
     let next : State = (judged s number line).state in

@@ -7,6 +7,7 @@ pub mod Octets
 pub mod Completing
 pub mod Convergence
 pub mod Commands
+pub mod Rounds
 pub mod Putting
 pub mod Captured
 pub mod Foretold
