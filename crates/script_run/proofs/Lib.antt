@@ -11,3 +11,4 @@ pub mod Rounds
 pub mod Putting
 pub mod Captured
 pub mod Foretold
+pub mod Questions

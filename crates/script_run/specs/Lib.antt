@@ -13,3 +13,4 @@ pub mod Running
 pub mod Puts
 pub mod Capturing
 pub mod Foretold
+pub mod Questions

@@ -11,6 +11,7 @@ use Rattle.script_run.specs.Text.{said_in, fate_of}
 use Rattle.script_run.proofs.Commands.{script_apart, script_once}
 use Rattle.script_run.proofs.Completing.{is_fate, is_text, is_end, is_complete}
 use Rattle.script_run.proofs.Convergence.{script_is_converged}
+use Rattle.script_run.proofs.Questions.{script_foretells, script_is_proven}
 use Rattle.script_run.proofs.Rounds.{script_settles}
 use Rattle.script_run.proofs.runner.run_script.Goals as goal
 
@@ -58,6 +59,8 @@ returns-in-Ok-clause-runs g c =
       settles = script_settles g.B.Bridge.shown c.args.network.now c.requires c.networks_settle.ensures.command left;
       once = script_once g.B.Bridge.shown c.args.network.now c.requires left;
       apart = script_apart g.B.Bridge.shown c.args.network.now c.requires left;
+      foretold = script_foretells g.B.Bridge.shown c.args.network.now c.requires left;
+      proofs = script_is_proven g.B.Bridge.shown c.args.network.now c.requires left;
       front = λ cut. whole_one status own cut;
       whole = λ failed. read_one status own failed;
       prompt = c.play_script.ensures.prompt;
@@ -81,6 +84,8 @@ returns-in-Err-Read-clause-runs g c =
       settles = script_settles g.B.Bridge.shown c.args.network.now c.requires c.networks_settle.ensures.command left;
       once = script_once g.B.Bridge.shown c.args.network.now c.requires left;
       apart = script_apart g.B.Bridge.shown c.args.network.now c.requires left;
+      foretold = script_foretells g.B.Bridge.shown c.args.network.now c.requires left;
+      proofs = script_is_proven g.B.Bridge.shown c.args.network.now c.requires left;
       front = λ cut. none cut;
       whole = λ failed. c.play_script.ensures.whole (c.in-Err-Read.is ∙ ap Err c.in-Err-Read.field-0-is);
       prompt = c.play_script.ensures.prompt;
@@ -104,6 +109,8 @@ returns-in-Err-Write-clause-runs g c =
       settles = script_settles g.B.Bridge.shown c.args.network.now c.requires c.networks_settle.ensures.command left;
       once = script_once g.B.Bridge.shown c.args.network.now c.requires left;
       apart = script_apart g.B.Bridge.shown c.args.network.now c.requires left;
+      foretold = script_foretells g.B.Bridge.shown c.args.network.now c.requires left;
+      proofs = script_is_proven g.B.Bridge.shown c.args.network.now c.requires left;
       front = λ cut. c.in-Err-Write.ensures.front;
       whole = λ failed. absurd cc;
       prompt = c.play_script.ensures.prompt;
@@ -127,6 +134,8 @@ returns-in-Err-NoMemory-clause-runs g c =
       settles = script_settles g.B.Bridge.shown c.args.network.now c.requires c.networks_settle.ensures.command left;
       once = script_once g.B.Bridge.shown c.args.network.now c.requires left;
       apart = script_apart g.B.Bridge.shown c.args.network.now c.requires left;
+      foretold = script_foretells g.B.Bridge.shown c.args.network.now c.requires left;
+      proofs = script_is_proven g.B.Bridge.shown c.args.network.now c.requires left;
       front = λ cut. c.in-Err-NoMemory.ensures.front;
       whole = λ failed. absurd cc;
       prompt = c.play_script.ensures.prompt;
