@@ -30,9 +30,9 @@ holds_too : {P Q : Type 0} (o : Option Refusal) → (P → Q) → IfAccepted o P
 holds_too None f holds = f holds
 holds_too (Some why) f holds = tt
 
-hold_both : {P Q R : Type 0} (o : Option Refusal) → (Q → R) → IfAccepted o P → IfAccepted o Q → IfAccepted o (P × R)
-hold_both None f here later = (here, f later)
-hold_both (Some why) f here later = tt
+hold_both : (P Q R : Type 0) (o : Option Refusal) → (Q → R) → IfAccepted o P → IfAccepted o Q → IfAccepted o (P × R)
+hold_both P Q R None f here later = (here, f later)
+hold_both P Q R (Some why) f here later = tt
 
 holds_anyway : {P : Type 0} (o : Option Refusal) → P → IfAccepted o P
 holds_anyway None holds = holds
@@ -62,8 +62,8 @@ all_foretell s number (line ∷ ls) here all =
     holds_too (judged s number line).refused
     (λ both. (
       asks (λ question. AllStates (Foretells s question) next (number + 1) ls)
-      (λ question. all_states_too IsTrusted (Foretells s question) (λ t there. foretells s t here there question) next (number + 1) ls both.1)
-      (extra_of line),
+          (λ question. all_states_too IsTrusted (Foretells s question) (λ t there. foretells s t here there question) next (number + 1) ls both.1)
+          (extra_of line),
       all_foretell next (number + 1) ls both.0 both.1,
     )) all
 
@@ -91,7 +91,10 @@ module _ (s : State) (number : ℕ) (P : Extra → Type 0) (each : (question : E
 all_are_proven : (s : State) (number : ℕ) (ls : List (List ℕ)) → IsTrusted s → AllStates IsTrusted s number ls → AllAreProven s number ls
 all_are_proven s number [] here all = tt
 all_are_proven s number (line ∷ ls) here all =
-    hold_both (judged s number line).refused
+    hold_both (IfAsks (extra_of line) (IsProven s.world))
+    (IsTrusted (judged s number line).state × AllStates IsTrusted (judged s number line).state (number + 1) ls)
+    (AllAreProven (judged s number line).state (number + 1) ls)
+    (judged s number line).refused
     (λ both. all_are_proven (judged s number line).state (number + 1) ls both.0 both.1)
     (asked_in s number (IsProven s.world) (proven s.world here.sound.world here.sound.distinct) line) all
 

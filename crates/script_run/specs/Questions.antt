@@ -31,7 +31,7 @@ abbrev pub AllForetell : State → ℕ → List (List ℕ) → Type 0
 AllForetell s number [] = ⊤
 AllForetell s number (line ∷ rest) = IfAccepted (judged s number line).refused
     (IfAsks (extra_of line) (λ question.
-        AllStates (Foretells s question) (judged s number line).state (number + 1) rest)
+    AllStates (Foretells s question) (judged s number line).state (number + 1) rest)
     × AllForetell (judged s number line).state (number + 1) rest)
 
 -- ---- proofs of paths
