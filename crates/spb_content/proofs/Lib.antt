@@ -17,7 +17,6 @@ pub mod Walked
 pub mod Chosen
 pub mod Made
 pub mod Put
-pub mod FoldedSame
 pub mod Folded
 pub mod Joined
 pub mod Whole
