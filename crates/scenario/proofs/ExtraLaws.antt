@@ -11,7 +11,7 @@ use Rattle.scenario.specs.declared.extra.Extra.TheVariants as extra
 use Rattle.scenario.specs.declared.extra.Change.{Change}
 use Rattle.scenario.specs.declared.extra.Change.TheVariants.{Down, Up, Metric}
 use Rattle.scenario.specs.declared.extra.ExtraKeyword.{ExtraKeyword}
-use Rattle.scenario.specs.declared.extra.ExtraKeyword.TheVariants.{WhatIf, Proof, Check}
+use Rattle.scenario.specs.declared.extra.ExtraKeyword.TheVariants.{WhatIf, Proof, Check, Settle}
 use Rattle.scenario.specs.declared.keyword.Keyword.{Keyword}
 use Rattle.scenario.specs.declared.keyword.Keyword.TheVariants.{Vid}
 use Rattle.scenario.specs.declared.line.TheConstants.{LINE_LIMIT}
@@ -162,6 +162,7 @@ unfolding extra_form all_entries
 forms-sound WhatIf = λ change. changes-sound change
 forms-sound Proof = λ from to vid. tt
 forms-sound Check = λ from to vid first. entries-few (MOST_BRIDGES - 1) from to vid (first ∷ []) (omega arith) (omega arith)
+forms-sound Settle = tt
 
 pub sound-extra : (line : List ℕ) (given : Extra) → SpellsExtra line given → IsSoundExtra given
 sound-extra line given h = spelled-so IsSoundExtra (extra_form h.keyword) given h.words (forms-sound h.keyword) h.form
@@ -187,6 +188,7 @@ extra-comment : (k : ExtraKeyword) (after : List ℕ) → is_comment (extra_text
 extra-comment WhatIf after = refl
 extra-comment Proof after = refl
 extra-comment Check after = refl
+extra-comment Settle after = refl
 
 pub ignored-none : (line : List ℕ) → IsBlankOrComment line → extra_of line ≡ Ok None
 ignored-none line h = begins-none line other

@@ -1,4 +1,4 @@
--- The lines of extras, questions that change nothing: `whatif`, `proof` and `check`.
+-- The lines of extras, which are no commands: `whatif`, `proof` and `check`, questions that change nothing; and `settle`.
 use Rattle.std.specs.Prelude.{◌≡◌, ℕ, zero, suc, ◌+◌, ◌-◌, ◌≤◌, ◌<◌, List, [], ◌∷◌, ◌++◌, length, nat_lt, Bool, true, false, IsTrue, if◌then◌else◌, Option, Some, None, Result, Ok, Err, ⊤}
 use Rattle.std.specs.Option.{is_some}
 use Rattle.spb_types.specs.declared.entry_word.EntryWord.{EntryWord}
@@ -10,7 +10,7 @@ use Rattle.scenario.specs.declared.error.LineError.TheVariants.{Words, NoMemory}
 use Rattle.scenario.specs.declared.extra.Extra.{Extra}
 use Rattle.scenario.specs.declared.extra.Extra.TheVariants as extra
 use Rattle.scenario.specs.declared.extra.ExtraKeyword.{ExtraKeyword}
-use Rattle.scenario.specs.declared.extra.ExtraKeyword.TheVariants.{WhatIf, Proof, Check}
+use Rattle.scenario.specs.declared.extra.ExtraKeyword.TheVariants.{WhatIf, Proof, Check, Settle}
 use Rattle.scenario.specs.declared.extra.Change.{Change}
 use Rattle.scenario.specs.declared.extra.Change.TheVariants.{Down, Up, Metric}
 use Rattle.scenario.specs.declared.line.TheConstants.{LINE_LIMIT}
@@ -59,6 +59,7 @@ extra_form Check = do
   to ← a_name
   vid ← a_number
   all_entries (extra.Check from to vid)
+extra_form Settle = gives extra.Settle
 
 -- the form of a whole line: a keyword, and what its form takes
 abbrev pub extra_line : Form Extra
@@ -92,6 +93,7 @@ abbrev pub IsSoundExtra : Extra → Type 0
 IsSoundExtra (extra.WhatIf command) = IsTrue (is_change command)
 IsSoundExtra (extra.Proof from to vid) = ⊤
 IsSoundExtra (extra.Check from to vid entries) = (1 ≤ length entries) × (length entries ≤ MOST_BRIDGES)
+IsSoundExtra extra.Settle = ⊤
 
 -- ---- What is answered
 

@@ -66,6 +66,15 @@ fn check(alloc: Global, words: &mut Words<'_>) -> Result<Extra, LineError>
     })
 }
 
+/// The words behind `settle`: none.
+#[tactic(auto, unfolding(crate::specs::Extras::extra_form))]
+fn settle(words: &mut Words<'_>) -> Result<Extra, LineError>
+    ensures { GivesExtra result (read (extra_form ExtraKeyword.Settle) words.old) }
+{
+    words.finish()?;
+    Ok(Extra::Settle)
+}
+
 /// The extra of the keyword's form, of the words behind it.
 #[tactic(auto, unfolding(crate::specs::Extras::extra_form))]
 fn extra(alloc: Global, keyword: ExtraKeyword, words: &mut Words<'_>) -> Result<Extra, LineError>
@@ -78,6 +87,7 @@ fn extra(alloc: Global, keyword: ExtraKeyword, words: &mut Words<'_>) -> Result<
         }
         ExtraKeyword::Proof => proof(words),
         ExtraKeyword::Check => check(alloc, words),
+        ExtraKeyword::Settle => settle(words),
     }
 }
 
@@ -102,8 +112,8 @@ fn read_extra(alloc: Global, line: &[u8]) -> Result<Option<Extra>, LineError>
 
 /// The extra that a line asks. The line comes without its end (LF, or CR LF).
 ///
-/// None exactly where the first word of the line, however long that is, is none of `whatif`, `proof` and `check`, so
-/// also where it is blank or a comment: `parse_line` then says what the line is. Of a line that begins so, `Words`
+/// None exactly where the first word of the line, however long that is, is none of `whatif`, `proof`, `check`
+/// and `settle`, so also where it is blank or a comment: `parse_line` then says what the line is. Of a line that begins so, `Words`
 /// exactly where it isn't in the grammar of extras or has more than 8,192 bytes, and `NoMemory` only where it is a
 /// `check` line and no memory was found for its entries.
 pub fn parse_extra(alloc: Global, line: &[u8]) -> Result<Option<Extra>, LineError>
