@@ -3,3 +3,4 @@ mod Walks
 mod BothLanes
 mod HeldWalks
 mod IdCounts
+mod SingleRounds

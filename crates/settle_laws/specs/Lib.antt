@@ -1,2 +1,3 @@
 pub mod Ids
 pub mod Premises
+pub mod Settling

@@ -1,4 +1,4 @@
-//! Which premise of settling fails.
+//! What settling answers, and which premise of it fails.
 
 /// Whether a network is ready to be settled, or the first premise that fails, in this order.
 #[derive(Clone, Copy, Debug, PartialEq, Eq)]
@@ -14,4 +14,13 @@ pub enum Ready {
     OwnLifetime,
     /// All bridges together hold more than 900 different LSP ids.
     Ids,
+}
+
+/// What settling came to.
+#[derive(Clone, Copy, Debug, PartialEq, Eq)]
+pub struct Settled {
+    /// The rounds that were made.
+    pub rounds: u32,
+    /// `Yes` where the network is quiet, and else the first premise that failed before the first round.
+    pub left: Ready,
 }
