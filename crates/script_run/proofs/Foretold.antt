@@ -9,7 +9,7 @@ use Rattle.fdb_build.specs.Groups.{group_rows}
 use Rattle.fdb_build.specs.Tables.{unicast_rows}
 use Rattle.spb_world.specs.World.{World, system_at, wired_tables}
 use Rattle.spb_world.specs.Changing.{with_change}
-use Rattle.table_changes.specs.Changes.{rows_of, is_row_in}
+use Rattle.table_changes.specs.Changes.{all_rows, is_row_in}
 use Rattle.table_changes.specs.Laws.{removed_at, added_at}
 use Rattle.table_changes.proofs.Comparing.{rows_go_and_come}
 use Rattle.script_run.specs.Foretold.{HaveOneWiring, ChangesAreForetold, ChangesAreRefusedAlike}
@@ -27,9 +27,9 @@ changes_are_foretold s t c trusted trusted' quiet quiet' one i v w at at' r =
     let before : own_tables v ≡ wired_tables s.world i = ((trusted.converged quiet).wired i v at).tables in
     let after : own_tables w ≡ wired_tables (with_change s.world c) i =
     ((trusted'.converged quiet').wired i w at').tables ∙ sym (one_table (with_change s.world c) t.world i one) in
-    ap (λ (ts : Tables). is_row_in r (rows_of ts)) after
+    ap (λ (ts : Tables). is_row_in r (all_rows ts)) after
     ∙ rows_go_and_come s.world c i r
-    ∙ ap (λ (ts : Tables). (is_row_in r (rows_of ts) && not (is_row_in r (removed_at s.world c i))) || is_row_in r (added_at s.world c i)) (sym before)
+    ∙ ap (λ (ts : Tables). (is_row_in r (all_rows ts) && not (is_row_in r (removed_at s.world c i))) || is_row_in r (added_at s.world c i)) (sym before)
 
 pub changes_are_refused_alike : ChangesAreRefusedAlike
 changes_are_refused_alike s (command.Down link) h = refl

@@ -8,7 +8,7 @@ use Rattle.bridge_api.specs.View.{BridgeView}
 use Rattle.bridge_api.specs.Graph.{own_tables}
 use Rattle.spb_world.specs.World.{World, world_graph}
 use Rattle.spb_world.specs.Changing.{is_change, with_change}
-use Rattle.table_changes.specs.Changes.{rows_of, is_row_in}
+use Rattle.table_changes.specs.Changes.{all_rows, is_row_in}
 use Rattle.table_changes.specs.Laws.{removed_at, added_at}
 use Rattle.extra_answers.specs.Refusing.{extra_refusal}
 use Rattle.network_model.specs.Quiet.{IsQuiet}
@@ -25,8 +25,8 @@ pub record HaveOneWiring (w u : World) : Type 0 where
 -- the bridge at place i was v before a change and is w after it: it has the rows that it had and that don't go, and
 -- those that come, and no others
 abbrev pub HasForetoldRows : World → Command → ℕ → BridgeView → BridgeView → Type 0
-HasForetoldRows world c i v w = (r : TableRow) → is_row_in r (rows_of (own_tables w))
-    ≡ ((is_row_in r (rows_of (own_tables v)) && not (is_row_in r (removed_at world c i)))
+HasForetoldRows world c i v w = (r : TableRow) → is_row_in r (all_rows (own_tables w))
+    ≡ ((is_row_in r (all_rows (own_tables v)) && not (is_row_in r (removed_at world c i)))
     || is_row_in r (added_at world c i))
 
 -- so it is between a quiet state and every other one whose wiring is that after this change alone
