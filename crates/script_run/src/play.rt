@@ -14,6 +14,7 @@ ghost use Rattle.script_run.specs.declared.refusal.Refusal.TheVariants as refusa
 use crate::Refusal;
 use crate::answer::answer_text;
 use crate::reply::Reply;
+use crate::settling::{play_settle, watch_settle};
 use bridge_api::Bridge;
 use extra_answers::{answer, refusal};
 use report::error_text;
@@ -34,7 +35,7 @@ pub(crate) fn misspelled(alloc: Global, number: u32, column: usize) -> Result<Re
 }
 
 /// The reply to a command that is refused.
-fn refused(alloc: Global, number: u32, reason: Reason) -> Result<Reply, NoMemory>
+pub(crate) fn refused(alloc: Global, number: u32, reason: Reason) -> Result<Reply, NoMemory>
     ensures { IfOk result (λ reply. (reply.text.items ≡ texts.error_text number (reasons.reason_number reason) (reasons.name_of reason) None)
         × (reply.refused ≡ Some (refusal.Command reason))) }
 {
@@ -133,6 +134,7 @@ pub(crate) fn play_line<B: Bridge>(
     ensures ready { IsReady B.shown network.new }
 {
     match parse_extra(alloc, line) {
+        Ok(Some(Extra::Settle)) => play_settle(alloc, network, number),
         Ok(Some(extra)) => answer_extra(alloc, network, number, &extra),
         Ok(None) => play_plain(alloc, network, number, line),
         Err(LineError::Words(at)) => misspelled(alloc, number, at),
@@ -219,6 +221,7 @@ pub(crate) fn watch_line<B: Bridge>(
     ensures ready { IsReady B.shown network.new }
 {
     match parse_extra(alloc, line) {
+        Ok(Some(Extra::Settle)) => watch_settle(alloc, network, number, seen),
         Ok(Some(extra)) => Ok(watch_extra(network, &extra)),
         Ok(None) => watch_plain(alloc, network, number, line, seen),
         Err(LineError::Words(column)) => Ok(Some(Refusal::Words(column))),
