@@ -5,8 +5,9 @@
     tools/laws.py --check    says whether docs/LAWS.md is what it would write; where it isn't, the status is 1, and the
                              first line that differs is told
 
-A law is a public function of a crate's src/laws.rt, whose contract is the law. What is said of it here is its comment,
-so that is where to change it. A definition is a name of the contract that src/laws.rt takes from a specs/ folder.
+A law is a public function of a crate's src/laws.rt, or of another file of src/ whose first lines say that its
+functions do nothing; its contract is the law. What is said of it here is its comment, so that is where to change it. A
+definition is a name of the contract that the file takes from a specs/ folder.
 """
 
 import argparse
@@ -21,10 +22,11 @@ COLUMNS = 120
 HEAD = """\
 # Every law by name
 
-A law is a public function without code, in `src/laws.rt` of its crate, whose contract is the law. Here they stand by
-crate, lowest first. Each has its comment, and behind it the definitions that its contract names, with the files in
-which these stand; paths are within `crates/`. The laws of `isis_pdu`, and those that say numbers, are written out in
-the contract. `DEFINITIONS.md` says what the words mean, and `PROOFS.md` what is proved by which law.
+A law is a public function without code, whose contract is the law. It stands in `src/laws.rt` of its crate, or, in a
+crate of laws, in a file of `src/` that is named for what they are about. Here they stand by crate, lowest first. Each
+has its comment, and after it the definitions that its contract names, with the files in which these stand; paths are
+within `crates/`. The laws of `isis_pdu`, and those that say numbers, are written out in the contract. `DEFINITIONS.md`
+says what the words mean, and `PROOFS.md` what is proved by which law.
 
 This page is made by `tools/laws.py` of the comments, so it is changed there.
 """
@@ -128,14 +130,28 @@ def entry(name, paragraphs, files):
     return "\n".join(said) + "\n"
 
 
+def has_laws(path):
+    """Whether a file of src/ is one of laws: by its name, or by its first lines."""
+    head = " ".join(re.findall(r"(?m)^//! ?(.*)$", read(path)))
+    is_file_of_laws = "contract of a function that does nothing" in head
+    return os.path.basename(path) == "laws.rt" or is_file_of_laws and os.path.basename(path) != "lib.rt"
+
+
+def files_of_laws(crate):
+    """The files of laws of a crate, by name."""
+    folder = f"crates/{crate}/src"
+    paths = [f"{folder}/{name}" for name in sorted(os.listdir(os.path.join(TOP, folder))) if name.endswith(".rt")]
+    return [path for path in paths if has_laws(path)]
+
+
 def page():
     """The whole page."""
     parts = [HEAD]
     for crate in crates():
-        path = f"crates/{crate}/src/laws.rt"
-        if os.path.exists(os.path.join(TOP, path)):
+        paths = files_of_laws(crate)
+        if paths:
             parts.append(f"\n## `{crate}`\n\n")
-            parts += [entry(*law) for law in laws_in(path)]
+            parts += [entry(*law) for path in paths for law in laws_in(path)]
     return "".join(parts)
 
 

@@ -8,6 +8,7 @@ class Fabric:
         self.pick = pick
         self.vids, self.bridges, self.links, self.isids, self.attached = [], [], [], [], {}
         self.free = []
+        self.neighbours, self.dark = {}, set()
 
     def bridge(self):
         return self.pick.choice(self.bridges)
@@ -40,17 +41,49 @@ class Fabric:
             (a, port_a), (b, port_b) = self.free.pop(), self.free.pop()
             if a != b and frozenset((a, b)) not in joined:
                 joined.add(frozenset((a, b)))
+                self.neighbours.setdefault(a, []).append(b)
+                self.neighbours.setdefault(b, []).append(a)
                 self.links.append(f"L{len(self.links) + 1}")
                 yield f"link {self.links[-1]} {a} {port_a} {b} {port_b} {pick.randint(1, 20)}"
 
     def question(self):
         pick = self.pick
-        word = pick.choice(("state", "show", "wiring", "db", "adj", "drops", "path"))
+        word = pick.choice(("state", "show", "wiring", "db", "adj", "drops", "path", "whatif", "proof", "check"))
         if word == "state":
             return word
-        if word == "path":
-            return f"path {self.bridge()} {self.bridge()} {pick.choice(self.vids)}"
+        if word == "whatif":
+            return self.what_if()
+        if word in ("path", "proof"):
+            return f"{word} {self.bridge()} {self.bridge()} {pick.choice(self.vids)}"
+        if word == "check":
+            return self.check()
         return f"{word} {self.bridge()}"
+
+    def what_if(self):
+        """A change that is asked about: seldom one of a link that is in that state already."""
+        pick = self.pick
+        if not self.links:
+            return f"wiring {self.bridge()}"
+        link = self.link()
+        if pick.random() < 0.4:
+            return f"whatif metric {link} {pick.choice('ab')} {pick.randint(1, 30)}"
+        is_turned = pick.random() < 0.03
+        return f"whatif {'up' if (link in self.dark) != is_turned else 'down'} {link}"
+
+    def check(self):
+        """Entries that may well be right: there are few bridges, and most entries name neighbours."""
+        pick, start = self.pick, self.bridge()
+        entries = [self.entry(start, bridge) for bridge in self.bridges]
+        if pick.random() < 0.03:
+            entries.append(".")
+        return f"check {start} {self.bridge()} {pick.choice(self.vids)} {' '.join(entries)}"
+
+    def entry(self, start, bridge):
+        """An entry of a bridge, where paths begin at another."""
+        pick = self.pick
+        if pick.random() < 0.03:
+            return pick.choice(("-", ".", self.bridge()))
+        return "-" if bridge == start else pick.choice(self.neighbours.get(bridge, ["."]))
 
     def frame_event(self):
         """A frame of a lane, which may well be empty: often refused, so it is seldom chosen."""
@@ -78,6 +111,12 @@ class Fabric:
         rest = pick.randbytes(pick.randint(0, 9)).hex()
         return f"frame {bridge} {port} {to}0a000000000{pick.randint(1, 3)}0800{rest}"
 
+    def turn(self):
+        """A link fails or comes back. Where it did already, the line is refused, and the script ends there."""
+        word, link = self.pick.choice(("down", "up")), self.link()
+        (self.dark.add if word == "down" else self.dark.discard)(link)
+        return f"{word} {link}"
+
     def event(self):
         pick = self.pick
         if not self.links or pick.random() < 0.1:
@@ -92,7 +131,7 @@ class Fabric:
         if chance < 0.63:
             return f"restart {self.bridge()}"
         if chance < 0.66:
-            return f"{pick.choice(('down', 'up'))} {self.link()}"
+            return self.turn()
         if chance < 0.69:
             return self.frame_event()
         return self.customer()

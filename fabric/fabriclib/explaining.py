@@ -7,6 +7,7 @@ from typing import Callable, Dict, Iterable, List, NamedTuple, Optional, Tuple
 from fabriclib import language
 from fabriclib.play import Refused
 from fabriclib.script import Line, Script, World
+from fabriclib.terminal import counted
 
 
 class Finding(NamedTuple):
@@ -26,7 +27,7 @@ def explain(refused: Refused, script: Script) -> List[str]:
             f"{refused.reason}. {_of_added(refused)}".rstrip()
         ]
     before = script.world(line.number - 1) if line.number > 1 else World()
-    finding = _FINDERS.get(refused.reason, _nothing)(line, before)
+    finding = _found(refused.reason, line, before)
     column = refused.column or _column(line, finding.word)
     if refused.reason == "Words":
         finding = _of_words(line, column)
@@ -40,6 +41,15 @@ def explain(refused: Refused, script: Script) -> List[str]:
     if line.keyword in language.FORMS:
         told.append(f"form: {language.form(line.keyword)}")
     return told
+
+
+def _found(reason: str, line: Line, before: World) -> Finding:
+    """What a reason finds in a line, and of `whatif` in the change about which it asks."""
+    finder = _FINDERS.get(reason, _nothing)
+    if line.keyword != "whatif":
+        return finder(line, before)
+    finding = finder(line.change, before)
+    return finding if finding.word is None else finding._replace(word=finding.word + 1)
 
 
 def _of_added(refused: Refused) -> str:
@@ -80,13 +90,13 @@ def _of_words(line: Line, column: int) -> Finding:
     if len(line.text) > 8192:
         return Finding(None, "a line has at most 8,192 bytes")
     if column == len(line.text) + 1:
-        place = language.place_at(line.keyword, len(line.words) - 1) if line.keyword in language.FORMS else None
+        place = language.place_at(line.words, len(line.words) - 1) if line.keyword in language.FORMS else None
         return Finding(None, f"{place or 'a word'} is missing" + (f": {language.takes(place)}" if place else ""))
     index = next(i for i in range(len(line.words) or 1) if _column(line, i) >= column or i + 1 == len(line.words))
     word = line.words[index] if line.words else line.text
     if index == 0:
         return Finding(0, _of_keyword(word))
-    place = language.place_at(line.keyword, index - 1)
+    place = language.place_at(line.words, index - 1)
     if place is None:
         return Finding(index, f"a word more than the form has{_hint_of_more(word)}")
     return Finding(index, f"`{word}` doesn't fit {place}, {language.takes(place)}{_hint(place, word)}")
@@ -97,8 +107,13 @@ def _of_keyword(word: str) -> str:
         return "the file begins with a byte order mark; a script has none"
     if word.startswith("#"):
         return "a comment begins with # as the very first byte of its line"
-    close = difflib.get_close_matches(word.lower(), language.FORMS, 1)
-    return f"`{word}` is no keyword" + (f"; is `{close[0]}` meant?" if close else "")
+    return f"`{word}` is no keyword{_meant(word.lower(), language.FORMS)}"
+
+
+def _meant(word: str, known: Iterable[str], least: float = 0.6) -> str:
+    """Which of the known words may be meant by a word, if one is close."""
+    close = difflib.get_close_matches(word, list(known), 1, least)
+    return f"; is `{close[0]}` meant?" if close else ""
 
 
 def _hint_of_more(word: str) -> str:
@@ -113,8 +128,10 @@ def _hint(place: str, word: str) -> str:
         return f"; write {bare}"
     if place in ("PA", "PB", "P") and "/" in word:
         return "; ports have plain numbers"
-    if place in ("N", "L", "A", "B") and len(word) > 16:
+    if place in ("N", "L", "A", "B", "ENTRIES") and len(word) > 16:
         return f"; it has {len(word)}"
+    if place == "CHANGE":
+        return _meant(word.lower(), language.CHANGES)
     return ""
 
 
@@ -123,7 +140,7 @@ def _hint(place: str, word: str) -> str:
 
 def _places(line: Line) -> List[Tuple[int, str]]:
     """The places of a line, each with the number of its word."""
-    return list(zip(range(1, len(line.words)), language.FORMS[line.keyword]))
+    return list(zip(range(1, len(line.words)), language.places(line.words)))
 
 
 def _no_such_name(line: Line, before: World) -> Finding:
@@ -138,9 +155,9 @@ def _no_such_name(line: Line, before: World) -> Finding:
 def _missing(keyword: str, place: str, word: str, before: World) -> Optional[str]:
     if place == "L" and keyword != "link":
         return _not_declared("link", word, before.links)
-    if place in ("A", "B"):
+    if place in ("A", "B") or (place == "ENTRIES" and word not in language.NO_BRIDGE):
         return _not_declared("bridge", word, before.bridges)
-    if place == "V" and keyword in ("isid", "path") and int(word) not in before.vids:
+    if place == "V" and keyword in ("isid", "path", "proof", "check") and int(word) not in before.vids:
         return f"no base VID {word} is declared; declared are {_listed(before.vids)}"
     if place == "I" and keyword == "attach" and int(word) not in before.isids:
         return f"no service with the I-SID {word} is declared; declared are {_listed(before.isids)}"
@@ -156,8 +173,7 @@ def _not_declared(what: str, name: str, declared: Iterable[str]) -> Optional[str
     names = list(declared)
     if name in names:
         return None
-    close = difflib.get_close_matches(name, names, 1, 0.5)
-    return f"no {what} `{name}` is declared before this line" + (f"; is `{close[0]}` meant?" if close else "")
+    return f"no {what} `{name}` is declared before this line{_meant(name, names, 0.5)}"
 
 
 def _name_taken(line: Line, before: World) -> Finding:
@@ -236,7 +252,17 @@ def _range(line: Line, before: World) -> Finding:
         text = _of_range(line, index, place, before)
         if text:
             return Finding(index, text)
-    return _nothing(line, before)
+    return _of_entries(line, before) if line.keyword == "check" else _nothing(line, before)
+
+
+def _of_entries(line: Line, before: World) -> Finding:
+    """Entries that aren't as many as bridges: the first that is one too many, or the end of the line."""
+    first, bridges = len(language.FORMS["check"]), list(before.bridges)
+    count = len(line.words) - first
+    told = f"{counted(count, 'entry', 'entries')} for {counted(len(bridges), 'bridge')}"
+    if count < len(bridges):
+        return Finding(len(line.words), f"{told}; the next is that of {bridges[count]}")
+    return Finding(first + len(bridges), f"{told}; each has one, in order of declaration")
 
 
 def _of_number(place: str, number: int) -> str:
@@ -298,7 +324,8 @@ def _attached(line: Line, before: World) -> Finding:
 
 def _receive_only(line: Line, before: World) -> Finding:
     isid, since = before.attached[line.words[1], int(line.words[2])]
-    return Finding(2, f"customer port {int(line.words[2])} of {line.words[1]} only receives in the service {isid}", since)
+    port = int(line.words[2])
+    return Finding(2, f"customer port {port} of {line.words[1]} only receives in the service {isid}", since)
 
 
 def _not_attached(line: Line, before: World) -> Finding:

@@ -4,7 +4,8 @@ from __future__ import annotations
 import re
 from typing import Dict, Optional, Tuple
 
-# Each keyword with the places of its form, in order.
+# Each keyword with the places of its form, in order. ENTRIES takes one word or more, and behind CHANGE stand the places
+# of the change.
 FORMS: Dict[str, Tuple[str, ...]] = {
     "vid": ("V", "E"),
     "bridge": ("N", "PRIO", "SYSID", "SRC", "PORTS"),
@@ -30,14 +31,22 @@ FORMS: Dict[str, Tuple[str, ...]] = {
     "adj": ("B",),
     "path": ("A", "B", "V"),
     "drops": ("B",),
+    "whatif": ("CHANGE",),
+    "proof": ("A", "B", "V"),
+    "check": ("A", "B", "V", "ENTRIES"),
 }
+
+# The keywords of the lines about which `whatif` asks.
+CHANGES = ("down", "up", "metric")
 
 # A place that a line may leave out, with what it then has.
 LEFT_OUT = {"MODE": "both"}
 MODES = ("both", "send", "recv")
+# The entries of a proof that name no bridge: of the start, and of a bridge that no path reaches.
+NO_BRIDGE = ("-", ".")
 
 DECLARATIONS = ("vid", "bridge", "link", "isid", "attach", "detach")
-QUESTIONS = ("state", "show", "wiring", "db", "adj", "path", "drops")
+QUESTIONS = ("state", "show", "wiring", "db", "adj", "path", "drops", "whatif", "proof", "check")
 EVENTS = tuple(word for word in FORMS if word not in DECLARATIONS + QUESTIONS)
 
 NAME = re.compile(r"[A-Za-z][A-Za-z0-9_-]{0,15}\Z")
@@ -65,14 +74,28 @@ LIMITS = {
 
 def form(keyword: str) -> str:
     """The form of a keyword's line, as docs/SCRIPT.md writes it."""
-    places = ("N" if place == "COUNT" else f"[{place}]" if place in LEFT_OUT else place for place in FORMS[keyword])
-    return " ".join((keyword, *places))
+    if keyword == "whatif":
+        return " | ".join(f"whatif {form(change)}" for change in CHANGES)
+    told = ("N" if place == "COUNT" else f"[{place}]" if place in LEFT_OUT else place for place in FORMS[keyword])
+    return " ".join((keyword, *told))
+
+
+def places(words: Tuple[str, ...]) -> Tuple[str, ...]:
+    """The place of each word that may stand behind the keyword of a line, in order, as far as its words tell that."""
+    own = FORMS[words[0]]
+    if words[0] == "whatif" and len(words) > 1 and words[1] in CHANGES:
+        return own + FORMS[words[1]]
+    if words[0] == "check":
+        return own[:-1] + own[-1:] * LIMITS["bridges"]
+    return own
 
 
 def is_whole(words: Tuple[str, ...]) -> bool:
     """Whether a line of a keyword has a word for each place that can't be left out, and no more words than places."""
-    places = FORMS[words[0]]
-    return len([place for place in places if place not in LEFT_OUT]) < len(words) <= 1 + len(places)
+    own = places(words)
+    # No form has a place twice, but that of entries, of which one is enough.
+    needed = set(own) - set(LEFT_OUT)
+    return len(needed) < len(words) <= 1 + len(own)
 
 
 def takes(place: str) -> str:
@@ -86,6 +109,8 @@ def takes(place: str) -> str:
         "DIR": "a direction: ab or ba",
         "END": "an end of a link: a or b",
         "MODE": "a mode: both, send or recv",
+        "CHANGE": "a change: down, up or metric",
+        "ENTRIES": "an entry: the name of the bridge before, - or .",
     }.get(place, "a number: 1 to 10 decimal digits")
 
 
@@ -101,10 +126,14 @@ def fits(place: str, word: str) -> bool:
         return word in ("a", "b")
     if place == "MODE":
         return word in MODES
+    if place == "CHANGE":
+        return word in CHANGES
+    if place == "ENTRIES":
+        return word in NO_BRIDGE or NAME.match(word) is not None
     return NUMBER.match(word) is not None
 
 
-def place_at(keyword: str, index: int) -> Optional[str]:
-    """The place of the word `index` behind a keyword, none behind the last."""
-    places = FORMS[keyword]
-    return places[index] if index < len(places) else None
+def place_at(words: Tuple[str, ...], index: int) -> Optional[str]:
+    """The place of the word `index` behind the keyword of a line, none behind the last."""
+    own = places(words)
+    return own[index] if index < len(own) else None

@@ -14,7 +14,7 @@ from fabriclib.script import Line, Unusable
 from fabriclib.terminal import Progress
 
 # How many lines follow the first of an answer: the words of that line which say it.
-_ROW_COUNTS = {"show": (3, 4), "wiring": (2, 3), "adj": (2,), "db": (2,)}
+_ROW_COUNTS = {"show": (3, 4), "wiring": (2, 3), "adj": (2,), "db": (2,), "whatif": (1,)}
 
 
 class Refused(Exception):

@@ -31,6 +31,11 @@ class Line:
         """The first word, empty where the line is ignored."""
         return self.words[0] if self.words else ""
 
+    @property
+    def change(self) -> "Line":
+        """The line behind its first word: of `whatif` the change about which it asks."""
+        return Line(self.number, self.text.lstrip(" \t")[len(self.keyword) :].lstrip(" \t"), self.words[1:])
+
 
 @dataclass
 class Bridge:

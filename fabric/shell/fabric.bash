@@ -3,7 +3,7 @@ _spbsim() {
     case ${COMP_WORDS[COMP_CWORD-1]} in
         --kind) COMPREPLY=($(compgen -W "plain swift mixed" -- "$2")) ;;
         make) COMPREPLY=($(compgen -W "$(seq 4 96)" -- "$2")) ;;
-        *) COMPREPLY=($(compgen -W "run make try --kind" -- "$2")) ;;
+        *) COMPREPLY=($(compgen -W "run make try capture list --kind" -- "$2")) ;;
     esac
 }
 _fabric() {

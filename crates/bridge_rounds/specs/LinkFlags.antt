@@ -54,15 +54,15 @@ pub record IsLinkRound (id : LspId) (u : BridgeView) (q : ℕ) (us : Inbox) (v :
   pub back : IsSentOver id v p u q us
 
 -- what v holds is to be sent at its port p, or u holds it or a newer one
-abbrev pub IsReadyFor : LspId → BridgeView → ℕ → BridgeView → Type 0
-IsReadyFor id v p u = HasSrm v id p ⊎ IsAtMost (version_at v.database id) (version_at u.database id)
+abbrev pub IsSentOrHeld : LspId → BridgeView → ℕ → BridgeView → Type 0
+IsSentOrHeld id v p u = HasSrm v id p ⊎ IsAtMost (version_at v.database id) (version_at u.database id)
 
 -- the round of a link before which each end is ready for the other, and after which both hold this version
 pub record ComesToAgree (id : LspId) (u : BridgeView) (q : ℕ) (us : Inbox) (v : BridgeView) (p : ℕ) (vs : Inbox)
     (a : Version) : Type 0 where
   pub round : IsLinkRound id u q us v p vs
-  pub ready_there : IsReadyFor id u q v
-  pub ready_back : IsReadyFor id v p u
+  pub ready_there : IsSentOrHeld id u q v
+  pub ready_back : IsSentOrHeld id v p u
   pub held_there : version_at (after_round us u).database id ≡ a
   pub held_back : version_at (after_round vs v).database id ≡ a
 

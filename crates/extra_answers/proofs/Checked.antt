@@ -1,5 +1,5 @@
 -- What the test of a question says, and what is answered where entries prove the best paths.
-use Rattle.std.proofs.Common.{◌≡◌, arith, ℕ, suc, ◌<◌, ◌==◌, ◌&&◌, true, false, true≢false, List, [], ◌∷◌, length, Option, Some, None, is_some, option_map, refl, sym, ap, ◌∙◌, subst}
+use Rattle.std.proofs.Common.{◌≡◌, arith, ℕ, suc, ◌<◌, ◌==◌, ◌&&◌, true, true≢false, List, [], ◌∷◌, length, Option, Some, None, is_some, option_map, refl, sym, ap, ◌∙◌, subst}
 use Rattle.std.proofs.lemmas.Bool.Decides.{nat_tests}
 use Rattle.std.specs.Option.{unwrap_or}
 use Rattle.std.proofs.lemmas.List.{length-map}

@@ -1,2 +1,4 @@
 pub mod Plans
 pub mod Checked
+pub mod Named
+pub mod Passed

@@ -47,9 +47,13 @@ planned_for vids n = find (λ plan. plan.vid.value == n) vids
 abbrev pub proved_entries : World → VidPlan → List ℕ → List Entry
 proved_entries w plan from = best_entries (world_graph w) (mask_of plan.ect) (system_named w.bridges from)
 
+-- and by names, as they are answered
+abbrev pub proved_words : World → VidPlan → List ℕ → List EntryWord
+proved_words w plan from = words_of w.bridges (proved_entries w plan from)
+
 abbrev pub proof_in : World → List ℕ → List ℕ → Option VidPlan → List ℕ
 proof_in w from to None = []
-proof_in w from to (Some plan) = proof_text from to plan.vid.value (words_of w.bridges (proved_entries w plan from))
+proof_in w from to (Some plan) = proof_text from to plan.vid.value (proved_words w plan from)
 
 -- ---- and their check
 

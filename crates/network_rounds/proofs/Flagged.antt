@@ -26,7 +26,7 @@ use Rattle.bridge_api.proofs.SoundPorts.{sound_at}
 use Rattle.bridge_api.proofs.UpPorts.{up_ports_are_up}
 use Rattle.bridge_rounds.specs.Inbox.{Inbox, after_round}
 use Rattle.bridge_rounds.specs.FlagLaws.{HasNoSrm, HasNoSsn}
-use Rattle.bridge_rounds.specs.LinkFlags.{IsReadyFor, ComesToAgree, CanAnswer}
+use Rattle.bridge_rounds.specs.LinkFlags.{IsSentOrHeld, ComesToAgree, CanAnswer}
 use Rattle.bridge_rounds.specs.LinkFrames.{ComesOver}
 use Rattle.bridge_rounds.proofs.FlagSteps.{IsUpPort, up_port, up_carrier}
 use Rattle.bridge_rounds.proofs.LinkFlags.{links_fall_silent}
@@ -51,8 +51,8 @@ use Rattle.network_rounds.specs.Flags.{NeighboursAreBehind, IsWholeRound, HearsO
 record IsRoundBetween (id : LspId) (s : State) (i q j p : ℕ) (u v : BridgeView) : Type 0 where
   there : ComesOver u q v p (inbox_of s j)
   back : ComesOver v p u q (inbox_of s i)
-  ready_there : IsReadyFor id u q v
-  ready_back : IsReadyFor id v p u
+  ready_there : IsSentOrHeld id u q v
+  ready_back : IsSentOrHeld id v p u
 
 abbrev RoundOver : LspId → State → Dir → DeclaredLink → BridgeView → BridgeView → Type 0
 RoundOver id s dir l u v = IsRoundBetween id s (near_end dir l).bridge (near_end dir l).port (far_end dir l).bridge (far_end dir l).port u v

@@ -24,7 +24,7 @@ use Rattle.flooding.specs.Hearing.{claim_of}
 use Rattle.flooding.proofs.OwnNumbers.{its_own}
 use Rattle.snp_sync.specs.Hearing.{is_among}
 use Rattle.bridge_api.specs.View.{BridgeView}
-use Rattle.bridge_api.specs.Parsing.{Parsed, parsed, is_carrying}
+use Rattle.bridge_api.specs.Parsing.{parsed, is_carrying}
 use Rattle.bridge_api.specs.Parsing as parsing
 use Rattle.network_model.specs.State.{State}
 use Rattle.network_model.proofs.QuietLists.{each_of}

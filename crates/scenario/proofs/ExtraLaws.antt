@@ -1,7 +1,8 @@
 -- A line gives an extra exactly where it spells it, and is one only where it begins with its keyword.
-use Rattle.std.proofs.Common.{◌≡◌, ℕ, zero, suc, ◌+◌, ◌-◌, ◌≤◌, List, [], ◌∷◌, ◌++◌, length, length-append, true, false, nat_lt, Option, Some, None, Ok, Err, refl, sym, ap, ◌∙◌, subst, inl, inr, arith}
+use Rattle.std.proofs.Common.{◌≡◌, ℕ, zero, suc, ◌+◌, ◌-◌, ◌≤◌, List, [], ◌∷◌, ◌++◌, length, length-append, true, false, nat_lt, Option, Some, None, Ok, Err, refl, sym, ap, ◌∙◌, subst, inl, inr, arith, Bool, ◌||◌, ◌==◌, true≢false, slice_get}
 use Rattle.std.specs.Option.{is_some}
-use Rattle.std.proofs.lemmas.Bool.{cases_Bool}
+use Rattle.std.proofs.lemmas.Bool.{cases_Bool, and_parts, eq-eqb}
+use Rattle.std.specs.List.{list_all}
 use Rattle.std.proofs.lemmas.Bool.Decides.{nat_tests}
 use Rattle.scenario.specs.declared.command.Command.{Command}
 use Rattle.spb_types.specs.declared.entry_word.EntryWord.{EntryWord}
@@ -18,8 +19,8 @@ use Rattle.scenario.specs.declared.line.TheConstants.{LINE_LIMIT}
 use Rattle.scenario.specs.Words.{is_blank, Word, words_in, rest_from}
 use Rattle.scenario.specs.Keywords.{text_of, extra_text, extra_keyword}
 use Rattle.scenario.specs.Grammar.{an_extra, Value, Form, gives, takes, may_take, read, is_comment, some}
-use Rattle.scenario.specs.Spelling.{SpellsForm, AreWords, Spells, IsBlankOrComment, bytes_of}
-use Rattle.scenario.specs.Extras.{more_entries, all_entries, change_form, extra_form, extra_line, IsSoundExtra, begins_extra, extra_of, SpellsExtra, BeginsExtra, IsExtraRefusedAt, too_long, misfits, misses}
+use Rattle.scenario.specs.Spelling.{SpellsForm, AreWords, Spells, IsBlankOrComment, bytes_of, AreBlank}
+use Rattle.scenario.specs.Extras.{may_begin_extra, more_entries, all_entries, change_form, extra_form, extra_line, IsSoundExtra, begins_extra, extra_of, SpellsExtra, BeginsExtra, IsExtraRefusedAt, too_long, misfits, misses}
 use Rattle.scenario.specs.Laws.{ExtrasAreNoCommands}
 use Rattle.scenario.proofs.Values.{spells-meaning, meaning-spelled}
 use Rattle.scenario.proofs.FormLaws.{rest, spells-read, read-spelled}
@@ -61,6 +62,47 @@ begins-none line not_begun =
       | inl begins ↦ absurd (not_begun (begins-words line (words_of_line line) refl begins))
       | inr other ↦ rw other refl
     ]
+
+-- ---- lines that begin with another byte
+
+neither : (a b : Bool) → (a || b) ≡ false → (a ≡ false) × (b ≡ false)
+neither true b e = absurd cc
+neither false b e = (refl, e)
+
+front : List ℕ → ℕ
+front [] = 0
+front (x ∷ xs) = x
+
+apart-from : (b x : ℕ) → b ≡ x → (b == x) ≡ false → ⊥
+apart-from b x is not = true≢false (sym (eq-eqb b x is) ∙ not)
+
+-- no line that begins with such a byte begins with the keyword of an extra
+otherwise : (b : ℕ) (bytes : List ℕ) → may_begin_extra b ≡ false → BeginsExtra (b ∷ bytes) → ⊥
+unfolding front
+otherwise b bytes none h =
+    let four = neither (((is_blank b || (b == 119)) || (b == 112)) || (b == 99)) (b == 115) none in
+    let three = neither ((is_blank b || (b == 119)) || (b == 112)) (b == 99) four.0 in
+    let two = neither (is_blank b || (b == 119)) (b == 112) three.0 in
+    let one = neither (is_blank b) (b == 119) two.0 in
+    at one.0 one.1 two.1 three.1 four.1 h.0 h.2.0 h.2.1 h.2.2 h.2.5
+  where
+    at : is_blank b ≡ false → (b == 119) ≡ false → (b == 112) ≡ false → (b == 99) ≡ false → (b == 115) ≡ false → (k : ExtraKeyword) (before after : List ℕ) → AreBlank before → b ∷ bytes ≡ before ++ (extra_text k ++ after) → ⊥
+    at blank w p c s k (x ∷ xs) after all is = true≢false (sym (ap is_blank (ap front is) ∙ (and_parts (is_blank x) (list_all is_blank xs) all).0) ∙ blank)
+    at blank w p c s WhatIf [] after all is = apart-from b 119 (ap front is) w
+    at blank w p c s Proof [] after all is = apart-from b 112 (ap front is) p
+    at blank w p c s Check [] after all is = apart-from b 99 (ap front is) c
+    at blank w p c s Settle [] after all is = apart-from b 115 (ap front is) s
+
+held : Option ℕ → ℕ
+held None = 0
+held (Some b) = b
+
+pub otherwise-none : (line : List ℕ) (b : ℕ) → Some b ≡ slice_get line 0 → may_begin_extra b ≡ false → extra_of line ≡ Ok None
+unfolding held
+otherwise-none [] b first none = absurd cc
+otherwise-none (byte ∷ bytes) b first none =
+    let same : byte ≡ b = ap held (sym first) in
+    begins-none (byte ∷ bytes) (otherwise byte bytes (ap may_begin_extra same ∙ none))
 
 none-begins : (line : List ℕ) → extra_of line ≡ Ok None → BeginsExtra line → ⊥
 unfolding extra_of rest_from

@@ -1,5 +1,5 @@
 -- The lines of extras, which are no commands: `whatif`, `proof` and `check`, questions that change nothing; and `settle`.
-use Rattle.std.specs.Prelude.{◌≡◌, ℕ, zero, suc, ◌+◌, ◌-◌, ◌≤◌, ◌<◌, List, [], ◌∷◌, ◌++◌, length, nat_lt, Bool, true, false, IsTrue, if◌then◌else◌, Option, Some, None, Result, Ok, Err, ⊤}
+use Rattle.std.specs.Prelude.{◌≡◌, ℕ, zero, suc, ◌+◌, ◌-◌, ◌≤◌, ◌<◌, List, [], ◌∷◌, ◌++◌, length, nat_lt, Bool, true, false, IsTrue, if◌then◌else◌, Option, Some, None, Result, Ok, Err, ⊤, ◌||◌, ◌==◌}
 use Rattle.std.specs.Option.{is_some}
 use Rattle.spb_types.specs.declared.entry_word.EntryWord.{EntryWord}
 use Rattle.spb_types.specs.declared.limits.TheConstants.{MOST_BRIDGES}
@@ -71,6 +71,10 @@ extra_line = do
 abbrev pub begins_extra : List Word → Bool
 begins_extra [] = false
 begins_extra (word ∷ words) = is_some (extra_keyword word.bytes)
+
+-- whether a line that begins with a byte may begin so: with a blank, or with the first letter of such a keyword
+abbrev pub may_begin_extra : ℕ → Bool
+may_begin_extra b = (((is_blank b || (b == 119)) || (b == 112)) || (b == 99)) || (b == 115)
 
 -- The extra that a line gives, or None where its first word is no keyword of an extra, however long it is, or else the
 -- column, counted from 1, of the first byte of the first word that doesn't fit, or where words are missing, the column

@@ -1,8 +1,8 @@
 //! The line of an extra, read by the grammar.
-ghost use Rattle.std.specs.Prelude.{◌≡◌, ◌↔◌};
+ghost use Rattle.std.specs.Prelude.{◌≡◌, ◌↔◌, IsTrue, Ok, None};
 ghost use Rattle.scenario.specs.Grammar.{read};
 ghost use Rattle.scenario.specs.Spelling.{Spells, IsBlankOrComment};
-ghost use Rattle.scenario.specs.Extras.{extra_form, change_form, extra_of, GivesExtra, ReadsExtra, SpellsExtra, IsSoundExtra, BeginsExtra, IsExtraRefusedAt};
+ghost use Rattle.scenario.specs.Extras.{extra_form, change_form, extra_of, GivesExtra, ReadsExtra, SpellsExtra, IsSoundExtra, BeginsExtra, IsExtraRefusedAt, may_begin_extra};
 
 use crate::command::Command;
 use crate::entries::read_entries;
@@ -10,7 +10,7 @@ use crate::error::LineError;
 use crate::extra::{Change, Extra, ExtraKeyword};
 use crate::forms;
 use crate::line::LINE_LIMIT;
-use crate::words::Words;
+use crate::words::{Words, is_blank};
 use std::alloc::Global;
 
 /// The words behind `whatif metric`.
@@ -91,11 +91,31 @@ fn extra(alloc: Global, keyword: ExtraKeyword, words: &mut Words<'_>) -> Result<
     }
 }
 
+/// Whether a line that begins with a byte may begin with the keyword of an extra: with its first letter, or a blank.
+fn may_begin(byte: u8) -> bool
+    ensures { result ≡ may_begin_extra byte }
+{
+    is_blank(byte) || byte == b'w' || byte == b'p' || byte == b'c' || byte == b's'
+}
+
+/// Whether a line begins with a byte with which no extra begins.
+fn begins_otherwise(line: &[u8]) -> bool
+    ensures { IsTrue result → extra_of line.now ≡ Ok None }
+{
+    match line.first() {
+        None => false,
+        Some(first) => !may_begin(*first),
+    }
+}
+
 /// What the grammar of extras gives for a line.
 #[tactic(auto, unfolding(crate::specs::Extras::extra_of, crate::specs::Words::next))]
 fn read_extra(alloc: Global, line: &[u8]) -> Result<Option<Extra>, LineError>
     ensures { ReadsExtra result (extra_of line.now) }
 {
+    if begins_otherwise(line) {
+        return Ok(None);
+    }
     let mut words = Words::new(line);
     let Some((_, word)) = words.next_word() else {
         return Ok(None);

@@ -8,6 +8,7 @@ pub mod Counting
 pub mod Completing
 pub mod Convergence
 pub mod Commands
+pub mod Rounds
 pub mod Putting
 pub mod Captured
 pub mod Foretold

@@ -38,7 +38,8 @@ ForetellsOf s c t = IsQuiet s → IsQuiet t → HaveOneWiring (with_change s.wor
 abbrev pub ChangesAreForetold : Type 0
 ChangesAreForetold = (s t : State) (c : Command) → IsTrusted s → IsTrusted t → ForetellsOf s c t
 
--- what a change would do is asked of a network exactly where the change would be accepted, and is refused for its reason
+-- what a change would do is asked of a network exactly where the change would be accepted, and is refused for its
+-- reason
 abbrev pub ChangesAreRefusedAlike : Type 0
 ChangesAreRefusedAlike = (s : State) (c : Command) → is_change c ≡ true
     → extra_refusal s.world (WhatIf c) ≡ refusal_of s c

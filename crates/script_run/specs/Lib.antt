@@ -3,6 +3,7 @@ pub mod Play
 pub mod Replying
 pub mod Text
 pub mod Commands
+pub mod Rounds
 pub mod States
 pub mod Pieces
 pub mod Break

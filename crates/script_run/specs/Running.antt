@@ -12,6 +12,7 @@ use Rattle.script_run.specs.Output.{AppendsFront}
 use Rattle.script_run.specs.Pieces.{WritesWhole, WritesSoon, ReadsLittle}
 use Rattle.script_run.specs.Run.{is_written, is_ended, is_cut}
 use Rattle.script_run.specs.Commands.{AllLeaveEntered, AllDeliverOnce}
+use Rattle.script_run.specs.Rounds.{AllRoundsSettle}
 use Rattle.script_run.specs.States.{IsTrusted}
 use Rattle.script_run.specs.Text.{lines_played, text_of, fate_of, end_of, commands_in, AllStates}
 
@@ -35,6 +36,9 @@ module _
     pub counted : IsTrue (is_ended status) → IsCounted t
     pub converged : IsTrue (is_ended status) → QuietIsConverged t
     pub quiet : IfSome (left source) (λ script. AllStates IsTrusted s 1 (lines_played script))
+    -- A `round` line of 2(n - 1) + 6 to 4n + 16 rounds, n being the number of bridges, ends in quiet, where the network
+    -- is ready for 4n + 16 of them before it.
+    pub settles : IfSome (left source) (λ script. AllRoundsSettle s (commands_in s 1 (lines_played script)))
     -- Where it is quiet after some line, a group frame that enters by the next one, and is then delivered, leaves once
     -- at each other port where it has to.
     pub once : IfSome (left source) (λ script. AllDeliverOnce s (commands_in s 1 (lines_played script)))

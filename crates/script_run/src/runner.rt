@@ -11,6 +11,7 @@ use crate::Status;
 use crate::pieces::{Break, play_script};
 use crate::voice::Voice;
 use bridge_api::Bridge;
+use network_rounds::networks_settle;
 use spb_network::NetworkOf;
 use spb_outside::{Sink, Source};
 use std::alloc::Global;
@@ -34,6 +35,7 @@ pub fn run_script<B: Bridge, S: Source, K: Sink>(
     ensures reliable_source { IsTrue (S.is_reliable source.old) → result ≢ Status.ReadFault }
     ensures reliable_sink { IsTrue (K.is_reliable sink.old) → result ≢ Status.WriteFault }
 {
+    networks_settle();
     match play_script(alloc, network, Voice::Answers, source, sink) {
         Ok(status) => status,
         Err(Break::Read) => Status::ReadFault,

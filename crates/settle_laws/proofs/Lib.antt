@@ -4,3 +4,5 @@ mod BothLanes
 mod HeldWalks
 mod IdCounts
 mod SingleRounds
+mod Watching
+mod Ending

@@ -1,5 +1,5 @@
 -- Single rounds, one after another.
-use Rattle.std.proofs.Common.{◌≡◌, ℕ, zero, suc, ◌+◌, ◌-◌, ◌<◌, ◌≤◌, Bool, true, false, true≢false, List, [], ◌∷◌, ◌++◌, append-nil, append_assoc, refl, sym, ap, subst, ◌∙◌, arith, Option, Some, None, Result, Ok, Err, inl, inr}
+use Rattle.std.proofs.Common.{◌≡◌, ℕ, zero, suc, ◌+◌, ◌-◌, ◌<◌, ◌≤◌, Bool, true, false, true≢false, List, ◌++◌, append-nil, append_assoc, refl, sym, ap, subst, ◌∙◌, arith, None, Err, inl, inr}
 use Rattle.std.specs.Prelude.{if◌then◌else◌, nat_le}
 use Rattle.std.proofs.lemmas.Bool.{cases_Bool}
 use Rattle.std.proofs.lemmas.Bool.Decides.{nat_tests}
@@ -127,7 +127,7 @@ so_far_all m s t before after k far end =
 pub so_far_cut : (m : ℕ) (s t u : State) (before after more : List Out) (k : ℕ) (halted : Bool) (e : ApplyError) → IsSoFar m s before k after t → k < m → is_quiet t ≡ false
     → PlaysRound t after more (Err e) halted u → PlaysRounds m s before more (Err e) halted u
 so_far_cut m s t u before after more k halted error.NoMemory far less busy round = record {
-  made = k + 1;
+  begun = k + 1;
   told = k;
   few = omega (arith, made_busy m s t before after k far less busy);
   within = omega arith;
@@ -160,18 +160,18 @@ left_is s t before left is from first =
     by false busy = first (was_busy busy)
 
 -- rounds that ended early end settling early
-pub settles_not : {B : Type 0} (shown : B → Shown) (old new : NetworkOf B) (before after : List Out) (e : ApplyError) → old.halted ≡ false
-    → settle_refusal (state_of shown old) ≡ None
-    → PlaysRounds (most_settling (state_of shown old)) (state_of shown old) before after (Err e) new.halted (state_of shown new)
+pub settles_not : {B : Type 0} (shown : B → Shown) (old new : NetworkOf B) (before after : List Out) (e : ApplyError) (most : ℕ) → most ≡ most_settling (state_of shown old)
+    → old.halted ≡ false → settle_refusal (state_of shown old) ≡ None → PlaysRounds most (state_of shown old) before after (Err e) new.halted (state_of shown new)
     → SettlesBy shown old before after (Err e) new
-settles_not shown old new before after error.NoMemory on room cut = (on, room, cut)
-settles_not shown old new before after (error.Refused reason) on room cut = absurd cut
-settles_not shown old new before after error.Halted on room cut = absurd cut
+settles_not shown old new before after error.NoMemory most all on room cut =
+    (on, room, subst (λ m. IsCutShort m (state_of shown old) before after new.halted (state_of shown new)) all cut)
+settles_not shown old new before after (error.Refused reason) most all on room cut = absurd cut
+settles_not shown old new before after error.Halted most all on room cut = absurd cut
 
 -- and before the first none was made
 pub none_made : (m : ℕ) (s : State) (before : List Out) (halted : Bool) → IsCutShort m s before before halted s
 none_made m s before halted = record {
-  made = 0;
+  begun = 0;
   told = 0;
   few = omega arith;
   within = omega arith;

@@ -1,5 +1,6 @@
 -- What settling answers, and what it leaves.
-use Rattle.std.specs.Prelude.{◌≡◌, ◌↔◌, ℕ, ◌+◌, ◌≤◌, List, ◌++◌, replicate, Bool, true, false, Option, Some, None, Result, Ok, Err, if◌then◌else◌}
+use Rattle.std.specs.Prelude.{◌≡◌, ◌↔◌, ℕ, ◌+◌, ◌≤◌, List, ◌++◌, replicate, Bool, true, false, if◌then◌else◌}
+use Rattle.std.specs.Prelude.{Option, Some, None, Result, Ok, Err}
 use Rattle.std.specs.List.{AllByRecursion}
 use Rattle.scenario.specs.declared.command.Command.{Command}
 use Rattle.scenario.specs.declared.command.Command.TheVariants as command
@@ -10,7 +11,7 @@ use Rattle.network_model.specs.Questions.{is_quiet}
 use Rattle.network_model.specs.Play.{next_state, answer_of, played_all}
 use Rattle.network_model.specs.Isolation.{outs_in}
 use Rattle.network_model.specs.declared.delivered.Delivered.{Delivered}
-use Rattle.network_model.specs.Captured.{seen_of, captured}
+use Rattle.network_model.specs.Captured.{captured}
 use Rattle.network_model.specs.Brief.{IsBrief}
 use Rattle.network_model.specs.Counted.{most_commands}
 use Rattle.network_model.specs.Quiet.{IsQuiet}
@@ -43,16 +44,16 @@ PlaysRound s before after (Err error.NoMemory) halted t =
     (after ≡ before) × (halted ≡ false → t ≡ next_state s one_round)
 PlaysRound s before after (Err e) halted t = ⊥
 
--- settling by at most m rounds ended early, since memory was missing: so many rounds were made, and the customers'
--- frames of all of them were told, or of all but the last. The network halted exactly where it couldn't make the next
+-- settling by at most m rounds ended early, since memory was missing: so many rounds were begun, and the customers'
+-- frames of all of them were told, or of all but the last. Unless the network halted in the last, all of them were made
 pub record IsCutShort (m : ℕ) (s : State) (before after : List Out) (halted : Bool) (t : State) : Type 0 where
-  pub made : ℕ
+  pub begun : ℕ
   pub told : ℕ
-  pub few : made ≤ rounds_made m s
-  pub within : told ≤ made
-  pub near : made ≤ told + 1
+  pub few : begun ≤ rounds_made m s
+  pub within : told ≤ begun
+  pub near : begun ≤ told + 1
   pub outs : after ≡ before ++ outs_of s (single_rounds told)
-  pub state : halted ≡ false → t ≡ played_all s (single_rounds made)
+  pub state : halted ≡ false → t ≡ played_all s (single_rounds begun)
 
 -- at most m of them, until the network is quiet
 abbrev pub PlaysRounds : ℕ → State → List Out → List Out → Result ℕ ApplyError → Bool → State → Type 0
@@ -98,7 +99,8 @@ module _ {B : Type 0} (shown : B → Shown) where
       × (settle_refusal (state_of shown old) ≡ Some reason) × (new ≡ old) × (after ≡ before)
   SettlesBy old before after (Err error.NoMemory) new = (old.halted ≡ false)
       × (settle_refusal (state_of shown old) ≡ None)
-      × IsCutShort (most_settling (state_of shown old)) (state_of shown old) before after new.halted (state_of shown new)
+      × IsCutShort (most_settling (state_of shown old)) (state_of shown old) before after new.halted
+      (state_of shown new)
   SettlesBy old before after (Err error.Halted) new = (old.halted ≡ true) × (new ≡ old) × (after ≡ before)
 
   -- what `settle_watched` answers and leaves: it is `settle`, and where it answers, the deliveries of its rounds follow

@@ -1,6 +1,6 @@
 //! The premises of settling: which of them fails.
 ghost use Rattle.std.specs.Prelude.{◌≡◌, ◌≤◌, false, IfOk};
-ghost use Rattle.network_rounds.specs.Premises.{has_no_customers, outlive, owns_outlive, has_few_ids};
+ghost use Rattle.network_rounds.specs.Premises.{has_no_customers, outlive, owns_outlive};
 ghost use Rattle.spb_network.specs.Applying.{IsReady};
 ghost use Rattle.spb_network.specs.Network.{state_of};
 ghost use Rattle.settle_laws.specs.Premises.{ready_of};

@@ -1,6 +1,7 @@
 //! Settling: single rounds until a network is quiet.
 ghost use Rattle.std.specs.Prelude.{◌≡◌, ◌≤◌, ◌+◌, ◌*◌, ◌++◌, false, nat_le, IfOk, OnOk, OnErr, if◌then◌else◌};
 ghost use Rattle.spb_types.specs.declared.limits.TheConstants.{MOST_ROUNDS};
+ghost use Rattle.network_model.specs.Captured.{seen_of, captured};
 ghost use Rattle.network_model.specs.Isolation.{outs_in};
 ghost use Rattle.network_model.specs.Questions as question;
 ghost use Rattle.network_rounds.specs.Settling as rounds;
@@ -9,7 +10,6 @@ ghost use Rattle.spb_network.specs.Network.{state_of};
 ghost use Rattle.settle_laws.specs.declared.answers.Ready.TheVariants as readiness;
 ghost use Rattle.settle_laws.specs.Premises.{ready_of};
 ghost use Rattle.settle_laws.specs.Settling.{PlaysRound, PlaysRounds, SettlesBy, WatchesSettling, Notes, EndsInTime, LeftTells, one_round, single_rounds};
-ghost use Rattle.network_model.specs.Captured.{seen_of, captured};
 
 use crate::answers::{Ready, Settled};
 use crate::premises::ready;

@@ -8,7 +8,7 @@ import sys
 import time
 from typing import Callable, Iterator, List, Optional, Tuple
 
-from fabriclib.tests import accepted, golden, no_paths, times, usage
+from fabriclib.tests import accepted, golden, lines, no_paths, times, usage
 from fabriclib.tests.bench import TOP, Bench
 
 
@@ -53,10 +53,12 @@ def main() -> int:
     parser.add_argument("--times", action="store_true", help="time report --n-1 on large fabrics, too")
     parser.add_argument("--program", help="another program than the built one")
     told = parser.parse_args()
+    begun = time.monotonic()
+    faults = _tried([("lines and answers", lines.run)])
     program = told.program or built_program()
     if program is None:
         print("fabric/test: no program is built from the sources as they are; ./build makes it", file=sys.stderr)
-        return 2
+        return 1 if faults else 2
     bench = Bench(program)
     parts: List[Tuple[str, Callable[[], Iterator[str]]]] = [
         ("golden outputs", lambda: golden.run(bench, told.write)),
@@ -66,7 +68,13 @@ def main() -> int:
     ]
     if told.times:
         parts.append(("times", lambda: times.run(bench)))
-    begun = time.monotonic()
+    faults += _tried(parts)
+    print(f"{bench.calls} calls in {time.monotonic() - begun:.0f} seconds")
+    return 1 if faults else 0
+
+
+def _tried(parts: List[Tuple[str, Callable[[], Iterator[str]]]]) -> List[str]:
+    """Runs parts, tells of each how it went, and gives all that is wrong."""
     faults: List[str] = []
     for name, part in parts:
         found = list(part())
@@ -74,5 +82,4 @@ def main() -> int:
         for fault in found:
             print(f"  {fault}", flush=True)
         faults += found
-    print(f"{bench.calls} calls in {time.monotonic() - begun:.0f} seconds")
-    return 1 if faults else 0
+    return faults

@@ -189,6 +189,17 @@ _REFUSED = [
     "down L1\ndown L1",
     "attach A 2 100 Send",
     "attach A 2 100 recv\nframe A 2 ffffffffffff0a00000000010800",
+    "whatif donw L1",
+    "whatif metric L1 a",
+    "whatif down L2",
+    "whatif up L1",
+    "down L1\nwhatif down L1",
+    "whatif metric L1 b 0",
+    "proof A B 20",
+    "check A B 10 - A Cc",
+    "check A B 10 - A",
+    "check A B 10 - A . .",
+    "check A B 10 - 1 .",
 ]
 
 

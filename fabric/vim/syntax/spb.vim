@@ -4,7 +4,8 @@ if exists("b:current_syntax")
 endif
 syntax match spbDeclare /^\s*\(vid\|bridge\|link\|isid\|attach\|detach\)\>/
 syntax match spbEvent /^\s*\(metric\|down\|up\|restart\|tick\|deliver\|lose\|double\|round\|drain\|frame\)\>/
-syntax match spbAsk /^\s*\(state\|show\|wiring\|db\|adj\|path\|drops\)\>/
+syntax match spbAsk /^\s*\(state\|show\|wiring\|db\|adj\|path\|drops\|proof\|check\)\>/
+syntax match spbAsk /^\s*whatif\(\s\+\(down\|up\|metric\)\)\?\>/
 syntax match spbNumber /\s\@<=[0-9][0-9A-Fa-f]*\>/
 syntax match spbComment /^#.*$/
 " A comment begins with the first byte of its line.

@@ -11,6 +11,7 @@ use Rattle.script_run.specs.Text.{said_in, fate_of}
 use Rattle.script_run.proofs.Commands.{script_apart, script_once}
 use Rattle.script_run.proofs.Completing.{is_fate, is_text, is_end, is_complete}
 use Rattle.script_run.proofs.Convergence.{script_is_converged}
+use Rattle.script_run.proofs.Rounds.{script_settles}
 use Rattle.script_run.proofs.runner.run_script.Goals as goal
 
 none : {P : Type 0} → IsTrue false → P
@@ -54,6 +55,7 @@ returns-in-Ok-clause-runs g c =
       counted = λ e. counted;
       converged = λ e. counted_quiet_is_converged (state_of g.B.Bridge.shown c.play_script.new.network) sound.state counted;
       quiet = script_is_converged g.B.Bridge.shown c.args.network.now c.requires left;
+      settles = script_settles g.B.Bridge.shown c.args.network.now c.requires c.networks_settle.ensures.command left;
       once = script_once g.B.Bridge.shown c.args.network.now c.requires left;
       apart = script_apart g.B.Bridge.shown c.args.network.now c.requires left;
       front = λ cut. whole_one status own cut;
@@ -76,6 +78,7 @@ returns-in-Err-Read-clause-runs g c =
       counted = λ e. none e;
       converged = λ e. none e;
       quiet = script_is_converged g.B.Bridge.shown c.args.network.now c.requires left;
+      settles = script_settles g.B.Bridge.shown c.args.network.now c.requires c.networks_settle.ensures.command left;
       once = script_once g.B.Bridge.shown c.args.network.now c.requires left;
       apart = script_apart g.B.Bridge.shown c.args.network.now c.requires left;
       front = λ cut. none cut;
@@ -98,6 +101,7 @@ returns-in-Err-Write-clause-runs g c =
       counted = λ e. none e;
       converged = λ e. none e;
       quiet = script_is_converged g.B.Bridge.shown c.args.network.now c.requires left;
+      settles = script_settles g.B.Bridge.shown c.args.network.now c.requires c.networks_settle.ensures.command left;
       once = script_once g.B.Bridge.shown c.args.network.now c.requires left;
       apart = script_apart g.B.Bridge.shown c.args.network.now c.requires left;
       front = λ cut. c.in-Err-Write.ensures.front;
@@ -120,6 +124,7 @@ returns-in-Err-NoMemory-clause-runs g c =
       counted = λ e. none e;
       converged = λ e. none e;
       quiet = script_is_converged g.B.Bridge.shown c.args.network.now c.requires left;
+      settles = script_settles g.B.Bridge.shown c.args.network.now c.requires c.networks_settle.ensures.command left;
       once = script_once g.B.Bridge.shown c.args.network.now c.requires left;
       apart = script_apart g.B.Bridge.shown c.args.network.now c.requires left;
       front = λ cut. c.in-Err-NoMemory.ensures.front;
