@@ -15,8 +15,17 @@ def run(bench: Bench) -> Iterator[str]:
     for path in sorted(glob.glob(os.path.join(GOLDEN, "topologies", "*"))):
         yield from _of_topology(bench, path)
     paths = sorted(glob.glob(os.path.join(FABRICS, "*.spb")) + glob.glob(os.path.join(EXAMPLES, "*.spb")))
-    yield from _of_scripts(bench, [path for path in paths if not path.endswith("undeclared-bridge.spb")])
+    yield from _of_scripts(bench, [path for path in paths if not _is_refused(path)])
     yield from _of_drained_spine(bench)
+
+
+def _is_refused(path: str) -> bool:
+    """Whether the output that is kept of a script ends with a line that is refused."""
+    kept = os.path.splitext(path)[0] + ".out"
+    if not os.path.exists(kept):
+        return False
+    with open(kept, encoding="ascii") as file:
+        return file.read().splitlines()[-1].startswith("error ")
 
 
 def _of_topology(bench: Bench, path: str) -> Iterator[str]:
