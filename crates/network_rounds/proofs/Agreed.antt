@@ -19,7 +19,7 @@ use Rattle.network_model.proofs.CountedMoves.{systems_apart, declared_at}
 use Rattle.network_model.proofs.SoundEvents.{core_of}
 use Rattle.network_rounds.specs.Agreement.{IsReached, OriginsAreAhead, BridgesAgree}
 use Rattle.network_rounds.specs.Rounds.{IsRoundOf, AreRounds}
-use Rattle.network_rounds.specs.Steady.{IsReadyFor, ids_of, IsSteadyState, LinksComeUp, RoundsAreSteady}
+use Rattle.network_rounds.specs.Steady.{IsReadyFor, known_ids, IsSteadyState, LinksComeUp, RoundsAreSteady}
 use Rattle.network_rounds.proofs.Along.{rounds_stay_sound, rounds_stay_counted}
 use Rattle.network_rounds.proofs.Chain.{IsSteady, ahead, agree}
 use Rattle.network_rounds.proofs.Facts.{held_at, IsOriginAt, HasFacts, IsSteadyStep}
@@ -52,7 +52,7 @@ module _ (come_up : LinksComeUp) (are_steady : RoundsAreSteady) (d m n : ℕ) (s
   k = suc (suc (suc (suc n)))
 
   abbrev ids : List LspId
-  ids = ids_of s
+  ids = known_ids s
 
   -- the state after round 4 + r
   abbrev at_round : ℕ → State

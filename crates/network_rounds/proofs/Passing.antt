@@ -39,7 +39,7 @@ use Rattle.network_model.proofs.SoundEvents.{Sound-ticked_from}
 use Rattle.network_model.proofs.SoundLane.{All-in}
 use Rattle.network_rounds.specs.Premises.{most_ids}
 use Rattle.network_rounds.specs.Rounds.{HasNoCustomers, IsHeardRound, IsRoundOf, AreRounds}
-use Rattle.network_rounds.specs.Steady.{IsReadyFor, ids_of, HoldOnly, inbox_of, LosesNothing, NothingIsLost}
+use Rattle.network_rounds.specs.Steady.{IsReadyFor, known_ids, HoldOnly, inbox_of, LosesNothing, NothingIsLost}
 use Rattle.network_rounds.proofs.Along.{AreSame, same_sound, round_sound}
 use Rattle.network_rounds.proofs.BridgeLaws.{seconds_carry_none, rounds_hold_ids, seconds_send_at_port, mail_holds_within}
 use Rattle.network_rounds.proofs.Coming.{ComesOver, each_comes, of_each, to_each, in_ticked}
@@ -235,11 +235,11 @@ loses_nothing ids s was empty few = record {
       ∙ lanes_hold_what_is_sent s k dir l v was.sound empty there live at (omega (arith, room));
 }
 
-pub starts_passing : (m k : ℕ) (s : State) → IsReadyFor m k s → Passes (ids_of s) s
+pub starts_passing : (m k : ℕ) (s : State) → IsReadyFor m k s → Passes (known_ids s) s
 starts_passing m k s start = record { sound = start.sound; plain = starts_plain m s start.ready; only = starts_within s }
 
 pub nothing_is_lost : NothingIsLost
 nothing_is_lost m k s t start are =
-    let few : length (ids_of s) ≤ most_ids = starts_few m s start.ready in
-    let all = passes_all (ids_of s) k s t are (starts_passing m k s start) in
-    (all.0.only, few, λ some. loses_nothing (ids_of s) t all.0 (all.1 some) few)
+    let few : length (known_ids s) ≤ most_ids = starts_few m s start.ready in
+    let all = passes_all (known_ids s) k s t are (starts_passing m k s start) in
+    (all.0.only, few, λ some. loses_nothing (known_ids s) t all.0 (all.1 some) few)

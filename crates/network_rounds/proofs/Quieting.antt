@@ -30,7 +30,7 @@ use Rattle.network_model.proofs.QuietLaws.{quiet_says}
 use Rattle.network_model.proofs.SoundLaws.{without_carrier}
 use Rattle.network_rounds.specs.Rounds.{IsHeardRound, IsRoundOf, AreRounds}
 use Rattle.network_rounds.specs.Near.{AreNear}
-use Rattle.network_rounds.specs.Steady.{IsReadyFor, ids_of, inbox_of, HaveNoneDue, IsSteadyState, IsSteadyFor, IsSteadyOver, IsSteadyRound}
+use Rattle.network_rounds.specs.Steady.{IsReadyFor, known_ids, inbox_of, HaveNoneDue, IsSteadyState, IsSteadyFor, IsSteadyOver, IsSteadyRound}
 use Rattle.network_rounds.specs.Agreement.{IsReached, OriginsAreAhead, BridgesAgree}
 use Rattle.network_rounds.specs.Flags.{NeighboursAgree, NeighboursAreBehind, AllHearOfFew, VersionsStand, IsWholeRound, FallSilent, FlagsFall}
 use Rattle.network_rounds.specs.SettlingLaws.{RoundsSettle}
@@ -107,7 +107,7 @@ agreed = bridges_agree links_come_up rounds_are_steady
 
 module _ (d m k : ℕ) (s u : State) (is : IsReached d m k s u) where
   abbrev ids : List LspId
-  ids = ids_of s
+  ids = known_ids s
 
   passes : Passes ids u
   passes = (passes_all ids k s u is.rounds (starts_passing m k s is.ready)).0

@@ -31,7 +31,7 @@ use Rattle.network_model.proofs.QuietLists.{each_of}
 use Rattle.network_model.proofs.SoundLane.{All-from}
 use Rattle.network_rounds.specs.Premises.{passes, holds_only, is_plain, has_no_customers, outlives, entry_outlives, is_lasting, outlive, own_outlives, owns_outlive, ids_held, different_ids, most_ids, has_few_ids, is_ready}
 use Rattle.network_rounds.specs.Rounds.{HasNoCustomers}
-use Rattle.network_rounds.specs.Steady.{ids_of, HoldOnly, HaveLifeLeft}
+use Rattle.network_rounds.specs.Steady.{known_ids, HoldOnly, HaveLifeLeft}
 
 -- ---- the four premises
 
@@ -200,9 +200,9 @@ held_among (u ∷ views) zero v id e at held =
     left id (map (λ (e : LspId × Entry). e.0) (entries u.database)) (ids_held views) (keys_have (entries u.database) place.0 id e place.1)
 held_among (u ∷ views) (suc i) v id e at held = right id (map (λ (e : LspId × Entry). e.0) (entries u.database)) (ids_held views) (held_among views i v id e at held)
 
-pub starts_within : (s : State) → HoldOnly (ids_of s) s
+pub starts_within : (s : State) → HoldOnly (known_ids s) s
 starts_within s i v at id e held = once (ids_held s.views) id (held_among s.views i v id e at held)
 
-pub starts_few : (m : ℕ) (s : State) → is_ready m s ≡ true → length (ids_of s) ≤ most_ids
+pub starts_few : (m : ℕ) (s : State) → is_ready m s ≡ true → length (known_ids s) ≤ most_ids
 unfolding has_few_ids
-starts_few m s ready = leb-true (length (ids_of s)) most_ids (premises m s ready).few
+starts_few m s ready = leb-true (length (known_ids s)) most_ids (premises m s ready).few

@@ -51,7 +51,7 @@ use Rattle.network_model.proofs.Linked.{far_view}
 use Rattle.network_model.proofs.QuietStates.{up_is_linked}
 use Rattle.network_rounds.specs.Premises.{most_ids}
 use Rattle.network_rounds.specs.Rounds.{IsHeardRound, IsRoundOf, AreRounds}
-use Rattle.network_rounds.specs.Steady.{IsReadyFor, ids_of, inbox_of, HearAll, IsKeptUp, AreUp, HaveNoneDue, IsSteadyState, IsSteadyFor, IsSteadyOver, LinksComeUp, RoundsAreSteady}
+use Rattle.network_rounds.specs.Steady.{IsReadyFor, known_ids, inbox_of, HearAll, IsKeptUp, AreUp, HaveNoneDue, IsSteadyState, IsSteadyFor, IsSteadyOver, LinksComeUp, RoundsAreSteady}
 use Rattle.network_rounds.proofs.Along.{AreSame, round_sound, rounds_stay_counted, rounds_have_last}
 use Rattle.network_rounds.proofs.BridgeLaws.{seconds_are_calm, summaries_are_due}
 use Rattle.network_rounds.proofs.Heard.{all_tick_world}
@@ -343,19 +343,19 @@ rounds_are_steady ids m s t steady some is = record {
 
 -- ---- from the end of round 4 on
 
-steady_after : (m k : ℕ) (s t : State) → IsReadyFor m k s → AreRounds k s t → 4 ≤ k → k ≤ m → IsSteadyState (ids_of s) (m - k) t
+steady_after : (m k : ℕ) (s t : State) → IsReadyFor m k s → AreRounds k s t → 4 ≤ k → k ≤ m → IsSteadyState (known_ids s) (m - k) t
 steady_after m k s t start are low le =
     let few = starts_few m s start.ready in
     let was = starts_passing m k s start in
-    let all = passes_all (ids_of s) k s t are was in
+    let all = passes_all (known_ids s) k s t are was in
     record {
       sound = all.0.sound;
-      loses = loses_nothing (ids_of s) t all.0 (all.1 (omega (arith, low))) few;
+      loses = loses_nothing (known_ids s) t all.0 (all.1 (omega (arith, low))) few;
       fresh = (rounds_stay_counted k start.allowance s t are start.sound start.counted start.room).fresh;
       few = few;
       held = all.0.only;
       lasts = lifetimes_last m k s t start le are;
-      up = up_after (ids_of s) few k s t low are was;
+      up = up_after (known_ids s) few k s t low are was;
     }
 
 due_same : (s t : State) → t.views ≡ s.views → HaveNoneDue s → HaveNoneDue t
@@ -366,7 +366,7 @@ none_due_from m k s t start are low le =
     let last = rounds_have_last k s t are in
     let before : IsReadyFor m k s = record { sound = start.sound; allowance = start.allowance; counted = start.counted; room = omega (arith, start.room); ready = start.ready; short = start.short } in
     let one = split 0 last.0 t last.2 in
-    due_same one.mid t one.more.1 (none_due (ids_of s) (m - k) last.0 (steady_after m k s last.0 before last.1 low (omega (arith, le))) (omega (arith, le)) one.mid one.one)
+    due_same one.mid t one.more.1 (none_due (known_ids s) (m - k) last.0 (steady_after m k s last.0 before last.1 low (omega (arith, le))) (omega (arith, le)) one.mid one.one)
 
 pub links_come_up : LinksComeUp
 links_come_up m k s t start are low le =

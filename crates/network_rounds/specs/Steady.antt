@@ -42,8 +42,8 @@ pub record IsReadyFor (m k : ℕ) (s : State) : Type 0 where
   pub short : m ≤ 899
 
 -- the ids that are held at the start
-abbrev pub ids_of : State → List LspId
-ids_of s = different_ids (ids_held s.views)
+abbrev pub known_ids : State → List LspId
+known_ids s = different_ids (ids_held s.views)
 
 -- ---- nothing is lost
 
@@ -71,7 +71,7 @@ pub record LosesNothing (s : State) : Type 0 where
 -- on nothing is lost
 abbrev pub NothingIsLost : Type 0
 NothingIsLost = (m k : ℕ) (s t : State) → IsReadyFor m k s → AreRounds k s t
-    → HoldOnly (ids_of s) t × (length (ids_of s) ≤ most_ids) × (1 ≤ k → LosesNothing t)
+    → HoldOnly (known_ids s) t × (length (known_ids s) ≤ most_ids) × (1 ≤ k → LosesNothing t)
 
 -- ---- what is live lasts
 
@@ -122,7 +122,7 @@ pub record IsSteadyState (ids : List LspId) (m : ℕ) (s : State) : Type 0 where
 -- it is one after each number of rounds from 4 on for which it was ready, and from 5 on CSNPs are due nowhere
 abbrev pub LinksComeUp : Type 0
 LinksComeUp = (m k : ℕ) (s t : State) → IsReadyFor m k s → AreRounds k s t → 4 ≤ k → k ≤ m
-    → IsSteadyState (ids_of s) (m - k) t × (5 ≤ k → HaveNoneDue t)
+    → IsSteadyState (known_ids s) (m - k) t × (5 ≤ k → HaveNoneDue t)
 
 -- ---- a steady round
 

@@ -46,8 +46,8 @@ module _
     -- Quiet or not, what leaves has entered the same service: each frame that an accepted line lets out leaves at a
     -- port that is attached at that moment to an I-SID, and in this I-SID it entered by a line so far, byte for byte.
     pub apart : IfSome (left source) (λ script. AllLeaveEntered s (commands_in s 1 (lines_played script)))
-    -- What `whatif` answers comes true: between the state at such a line and each quiet one that a later line leaves, if
-    -- it was quiet too and the wiring is that after the change alone, the rows of each bridge change as was answered.
+    -- What `whatif` answers comes true: between the state at such a line and each quiet one that a later line leaves,
+    -- if it was quiet too and the wiring is that after the change alone, the rows of each bridge change as answered.
     pub foretold : IfSome (left source) (λ script. AllForetell s 1 (lines_played script))
     -- A `check` that no bridge fails is answered with the best path, and what `proof` answers passes a check.
     pub proofs : IfSome (left source) (λ script. AllAreProven s 1 (lines_played script))
