@@ -122,6 +122,8 @@ class Fabric:
         if not self.links or pick.random() < 0.1:
             return f"tick {self.bridge()}"
         chance = pick.random()
+        if chance < 0.06:
+            return "settle"
         if chance < 0.35:
             return f"round {pick.randint(1, 12)}"
         if chance < 0.5:

@@ -9,7 +9,8 @@ this stems the output of the program's stored run.
 
 Other scripts are answered where that is so, too, and have no other lines than a made one has and `up`, `metric`,
 `whatif`, `proof` and `check`. What a change would do is told by all tables before it and after it, a proof by the best
-paths, and entries are checked bridge by bridge.
+paths, and entries are checked bridge by bridge. `settle` isn't among these lines: how many rounds it makes doesn't
+follow from the links.
 """
 import copy
 import sys

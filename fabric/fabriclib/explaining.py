@@ -27,6 +27,7 @@ def explain(refused: Refused, script: Script) -> List[str]:
             f"{refused.reason}. {_of_added(refused)}".rstrip()
         ]
     before = script.world(line.number - 1) if line.number > 1 else World()
+    before.seconds += refused.settled
     finding = _found(refused.reason, line, before)
     column = refused.column or _column(line, finding.word)
     if refused.reason == "Words":
@@ -286,7 +287,9 @@ def _of_range(line: Line, index: int, place: str, before: World) -> Optional[str
     return None
 
 
-def _too_many(line: Line, _before: World) -> Finding:
+def _too_many(line: Line, before: World) -> Finding:
+    rounds = f"the rounds of a run are at most 20,000; {before.seconds:,} were made before"
+    most = language.most_settling(len(before.bridges))
     return Finding(
         None,
         {
@@ -295,7 +298,8 @@ def _too_many(line: Line, _before: World) -> Finding:
             "link": "a script has at most 400 links",
             "isid": "a script has at most 4,096 services",
             "attach": "a bridge has at most 960 different I-SIDs",
-            "round": f"the rounds of a run are at most 20,000; {_before.seconds:,} were asked for before",
+            "round": rounds,
+            "settle": f"for {counted(len(before.bridges), 'bridge')} it may make {most} rounds, and {rounds}",
             "drain": "the deliveries that a run's `drain` lines ask for are at most 100,000,000",
         }.get(line.keyword, "a limit would be passed"),
     )

@@ -34,6 +34,7 @@ FORMS: Dict[str, Tuple[str, ...]] = {
     "whatif": ("CHANGE",),
     "proof": ("A", "B", "V"),
     "check": ("A", "B", "V", "ENTRIES"),
+    "settle": (),
 }
 
 # The keywords of the lines about which `whatif` asks.
@@ -48,6 +49,8 @@ NO_BRIDGE = ("-", ".")
 DECLARATIONS = ("vid", "bridge", "link", "isid", "attach", "detach")
 QUESTIONS = ("state", "show", "wiring", "db", "adj", "path", "drops", "whatif", "proof", "check")
 EVENTS = tuple(word for word in FORMS if word not in DECLARATIONS + QUESTIONS)
+# The keywords of the lines that are always answered: `settle` is an event, and says how many rounds it made.
+ANSWERED = QUESTIONS + ("settle",)
 
 NAME = re.compile(r"[A-Za-z][A-Za-z0-9_-]{0,15}\Z")
 NUMBER = re.compile(r"[0-9]{1,10}\Z")
@@ -70,6 +73,11 @@ LIMITS = {
     "rounds": 20_000,
     "bytes": 8_388_608,
 }
+
+
+def most_settling(bridges: int) -> int:
+    """The rounds that `settle` may make with so many bridges."""
+    return 4 * bridges + 16
 
 
 def form(keyword: str) -> str:

@@ -23,6 +23,13 @@ CONDITIONS = {
     "q2": "a frame is on its way",
     "q3": "an LSP or CSNP is due",
 }
+# Why a network need not be quiet after all the rounds of a line `settle`: what was so before them.
+BUSY = {
+    "frame": "a customer's frame was on its way",
+    "lifetime": "an LSP was about to run out",
+    "own": "a bridge was about to originate an LSP anew",
+    "ids": "there were more than 900 LSP ids",
+}
 
 
 class Names:
@@ -51,6 +58,7 @@ class Names:
             "+": self._change,
             "proof": self._proof,
             "check": self._check,
+            "settle": self._settle,
         }.get(words[0])
         return read(words) if read else None
 
@@ -117,3 +125,7 @@ class Names:
     def _check(self, words: List[str]) -> Optional[str]:
         """The bridge of the number, where entries prove nothing."""
         return f"shown by {list(self.world.bridges)[int(words[2]) - 1]}" if words[1] == "no" else None
+
+    def _settle(self, words: List[str]) -> Optional[str]:
+        """What was so before the first round, where all were made and the network isn't quiet."""
+        return f"before the first of them {BUSY[words[3]]}" if words[2] == "busy" else None

@@ -18,14 +18,18 @@ _ROW_COUNTS = {"show": (3, 4), "wiring": (2, 3), "adj": (2,), "db": (2,), "whati
 
 
 class Refused(Exception):
-    """The program refused a line: which, from which line of the script it came, why, and the column of Words."""
+    """The program refused a line: which, from which line of the script it came, why, the column of Words, and the
+    rounds that lines `settle` before it made."""
 
-    def __init__(self, text: str, origin: Optional[Line], reason: str, column: Optional[int]) -> None:
+    def __init__(
+        self, text: str, origin: Optional[Line], reason: str, column: Optional[int], settled: int = 0
+    ) -> None:
         super().__init__(f"{text}: {reason}")
         self.text = text
         self.origin = origin
         self.reason = reason
         self.column = column
+        self.settled = settled
 
 
 class NoAnswer(Exception):
@@ -41,6 +45,11 @@ class Answer(NamedTuple):
     def texts(self) -> List[str]:
         """The lines as text."""
         return [line.decode("latin-1").rstrip("\n") for line in self.lines]
+
+
+def settled_rounds(texts: List[str]) -> int:
+    """The rounds of which an answer to `settle` tells, in its last line."""
+    return int(texts[-1].split()[1])
 
 
 @dataclass
@@ -126,12 +135,17 @@ class _Output:
 
 
 def _answers(output: _Output, tape: Tape, progress: Progress) -> Iterator[Answer]:
+    settled = 0
     for index, text in enumerate(tape.texts):
         if output.next.startswith(b"error ") and index + 1 == int(output.next.split()[1]):
-            raise _refused(output.take(), text, tape.origins[index])
+            raise _refused(output.take(), text, tape.origins[index], settled)
         keyword = text.split(None, 1)[0] if text.strip(" \t") and not text.startswith("#") else ""
         if keyword in language.QUESTIONS:
             yield Answer(index, _question(output, keyword))
+        elif keyword == "settle":
+            answer = Answer(index, [*_outs(output), *_question(output, keyword)])
+            settled += settled_rounds(answer.texts())
+            yield answer
         elif keyword in language.EVENTS and output.next.startswith(b"out "):
             yield Answer(index, list(_outs(output)))
         progress.at(index)
@@ -158,9 +172,9 @@ def _question(output: _Output, keyword: str) -> List[bytes]:
     return [first, *rows]
 
 
-def _refused(line: bytes, text: str, origin: Optional[Line]) -> Refused:
+def _refused(line: bytes, text: str, origin: Optional[Line], settled: int) -> Refused:
     words = line.decode("latin-1").split()
-    return Refused(text, origin, words[3], int(words[4]) if len(words) > 4 else None)
+    return Refused(text, origin, words[3], int(words[4]) if len(words) > 4 else None, settled)
 
 
 def default_program() -> str:

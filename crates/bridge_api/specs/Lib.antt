@@ -16,3 +16,4 @@ pub mod Laws
 pub mod Duties
 pub mod Graph
 pub mod Time
+pub mod Calm

@@ -14,7 +14,7 @@ use spb_types::{DropReason, Isid, Mac, Mode, NoMemory, Path, PortSet, SystemId, 
 /// the outbox may have gained the first of that call's frames. A question that finds no memory, which `tables`,
 /// `unicast_port`, `group_ports` and `path` can, leaves the bridge as it was.
 pub trait Bridge: Drop {
-    ghost use Rattle.std.specs.Prelude.{◌≡◌, true, false, IfOk, OnOk, OnErr, IsErr, Some};
+    ghost use Rattle.std.specs.Prelude.{◌≡◌, ◌≤◌, true, false, IfOk, OnOk, OnErr, IsErr, Some};
     ghost use Rattle.std.specs.Option.{option_map, option_copied};
     ghost use Rattle.spb_types.specs.Tables.{unicast_in, group_in};
     ghost use Rattle.lsdb.specs.Database.{keyed};
@@ -28,6 +28,7 @@ pub trait Bridge: Drop {
     ghost use Rattle.bridge_api.specs.Ticking.{after_tick, sent_in_tick};
     ghost use Rattle.bridge_api.specs.Step.{with_wire, with_moved, Gains, GainsMoved};
     ghost use Rattle.bridge_api.specs.Graph.{own_tables, own_path};
+    ghost use Rattle.bridge_api.specs.Calm.{IsCalmFor, aged_by};
 
     /// What is seen of the box: its kind, whether it is blank, and the bridge in it.
     ghost shown: { Self → Shown };
@@ -247,6 +248,28 @@ pub trait Bridge: Drop {
     fn rest(&mut self)
         ensures { shown self.new ≡ shown self.old }
     {}
+
+    /// For how many seconds the bridge can tell that nothing would come to pass at it but that lifetimes fall, as long
+    /// as each of its neighbours says hello in each of them. It answers 0 where something would, and where it can't tell.
+    fn calm_seconds(&self) -> u16
+        requires { (shown self.now).blank ≡ false }
+        ensures { 1 ≤ result → IsCalmFor result (shown self.now).view }
+    {
+        0
+    }
+
+    /// So many seconds pass in calm, with a hello of each neighbour in each of them, all at once. After `NoMemory` the
+    /// bridge is as it was. A bridge that can't do so answers that; it isn't called where `calm_seconds` answers 0.
+    fn pass_calm(&mut self, _seconds: u16) -> Result<(), NoMemory>
+        requires made { (shown self.old).blank ≡ false }
+        requires calm { IsCalmFor _seconds (shown self.old).view }
+        ensures view { OnOk result ((shown self.new).view ≡ aged_by _seconds (shown self.old).view) }
+        ensures memory { OnErr result (shown self.new ≡ shown self.old) }
+        ensures still_made { (shown self.new).blank ≡ false }
+        ensures kind { (shown self.new).kind ≡ (shown self.old).kind }
+    {
+        Err(NoMemory)
+    }
 }
 
 impl Bridge for Box<dyn Bridge> {
@@ -338,5 +361,13 @@ impl Bridge for Box<dyn Bridge> {
 
     fn rest(&mut self) {
         (**self).rest();
+    }
+
+    fn calm_seconds(&self) -> u16 {
+        (**self).calm_seconds()
+    }
+
+    fn pass_calm(&mut self, seconds: u16) -> Result<(), NoMemory> {
+        (**self).pass_calm(seconds)
     }
 }

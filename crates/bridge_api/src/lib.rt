@@ -35,7 +35,10 @@
 //!    gains both lists that are moved (`with_moved` of `specs/Step.antt`), or first frames of each where no memory was
 //!    found. Such a frame changes nothing but what is learned and counted, and `with_port_forgotten`, which comes first
 //!    where a port is detached, nothing but what is learned: `entry_is` and `forgotten_is` of `proofs/Changes.antt`.
-//! 6. A test makes boxes of it as `Box<dyn Bridge>` and calls them through the trait, since no proof says that memory
+//! 6. `calm_seconds` and `pass_calm` may stay as the trait has them; then each second is played. One that implements
+//!    them answers a number of seconds for which its view is calm, `IsCalmFor`, or 0 where it can't tell, and lowers all
+//!    lifetimes by so many at once, `aged_by` (`specs/Calm.antt`).
+//! 7. A test makes boxes of it as `Box<dyn Bridge>` and calls them through the trait, since no proof says that memory
 //!    is found.
 #![tactic(auto)]
 

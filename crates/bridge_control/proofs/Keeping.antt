@@ -55,6 +55,15 @@ kept_step r input blank failed old m read made ready is after_sending after none
   reading = λ e f. none_read (view_of m) read none;
 }
 
+-- after a change that keeps none
+pub kept_after : (v : BridgeView) (blank failed : Bool) (m : Machine) (read : Option FabricView) → blank ≡ false → IsSoundView v → IsAfter v m → read ≡ None → IsKept blank failed m None read
+kept_after v blank failed m read made sound is none = record {
+  unfailed = λ e. absurd (let no : true ≡ false = sym e ∙ made in cc);
+  ready = λ e f. ready_after v m sound is;
+  tables = λ e f. tt;
+  reading = λ e f. none_read (view_of m) read none;
+}
+
 pub kept_configured : (c : BridgeConfig) (failed : Bool) (m : Machine) → IsWhole c → IsAfter (configured c) m → IsKept false failed m None None
 kept_configured c failed m whole is = record {
   unfailed = λ e. absurd cc;

@@ -20,8 +20,10 @@ pub mod Anew
 pub mod Tlvless
 pub mod Telling
 pub mod Unsaid
+pub mod Repeated
 pub mod Moving
 pub mod Copies
 pub mod HeldAgain
 pub mod Compared
 pub mod Together
+pub mod InCalm

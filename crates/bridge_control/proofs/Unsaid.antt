@@ -1,9 +1,10 @@
 -- A customer port beside others that do the same in its service: the bridge says the same of itself with it and without
 -- it.
-use Rattle.std.proofs.Common.{Option, Some, ◌≡◌, ◌⊎◌, inl, inr, ℕ, zero, suc, ◌+◌, ◌*◌, take, drop, Bool, true, false, List, [], ◌∷◌, ◌++◌, map, refl, sym, ap, ◌∙◌, subst}
+use Rattle.std.proofs.Common.{Option, Some, ◌≡◌, ◌⊎◌, inl, inr, ℕ, zero, suc, ◌+◌, ◌*◌, take, drop, Bool, true, false, cond, List, [], ◌∷◌, ◌++◌, map, refl, sym, ap, ◌∙◌, subst}
 use Rattle.std.specs.Prelude.{not, ◌||◌, ◌&&◌, ◌==◌}
-use Rattle.std.specs.List.{list_any, list_all}
-use Rattle.std.proofs.lemmas.Bool.{eqb-true}
+use Rattle.std.specs.List.{list_any}
+use Rattle.std.specs.Option.{option_map_or}
+use Rattle.std.proofs.lemmas.Bool.{eqb-true, eqb-false}
 use Rattle.spb_types.specs.Service.{sends, receives}
 use Rattle.spb_types.specs.declared.address.SystemId.{SystemId}
 use Rattle.spb_types.specs.declared.graph.Member.{Member}
@@ -12,7 +13,7 @@ use Rattle.spb_types.specs.declared.service.Mode.{Mode}
 use Rattle.spb_types.specs.declared.service.Mode.TheVariants.{Both, Send, Recv}
 use Rattle.spb_types.specs.declared.level.TheConstants.{LEVEL_1}
 use Rattle.customer_learning.specs.Known.{Addresses}
-use Rattle.forwarding.specs.Ports.{is_at_other_port, is_in, without_customer_port}
+use Rattle.forwarding.specs.Ports.{attachment_of, is_at_other_port, is_in, without_customer_port}
 use Rattle.forwarding.specs.Detaching.{after_detach}
 use Rattle.flooding.specs.declared.own.Own.{Own}
 use Rattle.flooding.specs.Own.{own_numbers}
@@ -22,10 +23,11 @@ use Rattle.spb_content.specs.Fragments.{unless_none, fragment, fragments_from, b
 use Rattle.spb_content.specs.Local.{IsLocal, content_bytes, service_tlvs}
 use Rattle.spb_content.specs.Members.{merged}
 use Rattle.spb_content.proofs.Covered.{any_has, IsPaired, IsCovered, AreCovered}
-use Rattle.spb_content.proofs.Members.{Has, has_left, has_parts, has_map, map_has, has_filter, filter_has}
+use Rattle.spb_content.proofs.Members.{Has, all_has, has_left, has_parts, has_map, map_has, has_filter, filter_has}
 use Rattle.spb_content.proofs.Merged.{merged_same}
 use Rattle.spb_content.proofs.Pairs.{attached_numbers}
 use Rattle.bridge_api.specs.View.{BridgeView}
+use Rattle.bridge_api.specs.Config.{ArePairwise, AgreesWith}
 use Rattle.bridge_api.specs.Own.{member_of, local_of, bodies_of, own_of}
 use Rattle.bridge_api.specs.Customers.{with_learned}
 use Rattle.bridge_api.specs.Services.{with_attached, with_port_forgotten}
@@ -43,7 +45,7 @@ use Rattle.bridge_control.proofs.Telling.{machine_with, forgotten_is}
 
 -- ---- tests of lists
 
-both : (a b : Bool) → (a && b) ≡ true → (a ≡ true) × (b ≡ true)
+pub both : (a b : Bool) → (a && b) ≡ true → (a ≡ true) × (b ≡ true)
 both true b e = (refl, e)
 both false b e = absurd cc
 
@@ -52,27 +54,22 @@ needed : (b c : Bool) → (not b || c) ≡ true → b ≡ true → c ≡ true
 needed true c e t = e
 needed false c e t = absurd cc
 
-all_pass : {A : Type 0} (p : A → Bool) (x : A) (xs : List A) → list_all p xs ≡ true → Has x xs → p x ≡ true
-all_pass p x [] e h = absurd h
-all_pass p x (y ∷ ys) e (inl i) = ap p i ∙ (both (p y) (list_all p ys) e).0
-all_pass p x (y ∷ ys) e (inr h) = all_pass p x ys (both (p y) (list_all p ys) e).1 h
-
 -- ---- what ports do in a service
 
 -- one of these does something in the service of an attachment
-record IsDoneBy (does : Mode → Bool) (a : Attachment) (bs : List Attachment) : Type 0 where
-  by : Attachment
-  has : Has by bs
-  isid : a.isid ≡ by.isid
-  vid : a.vid ≡ by.vid
-  done : does by.mode ≡ true
+pub record IsDoneBy (does : Mode → Bool) (a : Attachment) (bs : List Attachment) : Type 0 where
+  pub by : Attachment
+  pub has : Has by bs
+  pub isid : a.isid ≡ by.isid
+  pub vid : a.vid ≡ by.vid
+  pub done : does by.mode ≡ true
 
 -- what an attachment does in its service is done there by these
-record AreDoing (bs : List Attachment) (a : Attachment) : Type 0 where
-  sends : sends a.mode ≡ true → IsDoneBy sends a bs
-  receives : receives a.mode ≡ true → IsDoneBy receives a bs
+pub record AreDoing (bs : List Attachment) (a : Attachment) : Type 0 where
+  pub sends : sends a.mode ≡ true → IsDoneBy sends a bs
+  pub receives : receives a.mode ≡ true → IsDoneBy receives a bs
 
-itself : (a : Attachment) (bs : List Attachment) → Has a bs → AreDoing bs a
+pub itself : (a : Attachment) (bs : List Attachment) → Has a bs → AreDoing bs a
 itself a bs h = record {
   sends = λ e. record { by = a; has = h; isid = refl; vid = refl; done = e };
   receives = λ e. record { by = a; has = h; isid = refl; vid = refl; done = e };
@@ -142,15 +139,27 @@ is_port : (b : Bool) → not b ≡ false → b ≡ true
 is_port true e = refl
 is_port false e = absurd cc
 
-less_at : (port : ℕ) (xs : List Attachment) (x : Attachment) (b : Bool) → is_at_other_port port x ≡ b → (b || is_done_beside xs x) ≡ true → Has x xs → AreDoing (without_customer_port port xs) x
-less_at port xs x true t e h = itself x (without_customer_port port xs) (has_filter (is_at_other_port port) x xs h t)
-less_at port xs x false t e h =
+-- what is attached at the port of one of these is that one
+found : (x : Attachment) (xs : List Attachment) → ArePairwise AgreesWith xs → Has x xs → attachment_of x.port xs ≡ Some x
+found x [] apart h = absurd h
+found x (y ∷ ys) apart h = at (y.port == x.port) refl h (found x ys apart.1)
+  where
+    at : (b : Bool) → (y.port == x.port) ≡ b → Has x (y ∷ ys) → (Has x ys → attachment_of x.port ys ≡ Some x) → cond b (Some y) (attachment_of x.port ys) ≡ Some x
+    at true e (inl i) rest = ap Some (sym i)
+    at true e (inr i) rest = absurd ((all_has (AgreesWith y) x ys apart.0 i).ports (eqb-true y.port x.port e))
+    at false e (inl i) rest = absurd (eqb-false y.port x.port e (ap (λ (a : Attachment). a.port) (sym i)))
+    at false e (inr i) rest = rest i
+
+less_at : (port : ℕ) (xs : List Attachment) (x : Attachment) (b : Bool) → is_at_other_port port x ≡ b → ArePairwise AgreesWith xs → is_covered port xs ≡ true → Has x xs → AreDoing (without_customer_port port xs) x
+less_at port xs x true t apart e h = itself x (without_customer_port port xs) (has_filter (is_at_other_port port) x xs h t)
+less_at port xs x false t apart e h =
     let at : x.port ≡ port = eqb-true x.port port (is_port (x.port == port) t) in
-    let beside : AreDoingBeside xs x = all_beside x xs e in
+    let there : attachment_of port xs ≡ Some x = ap (λ p. attachment_of p xs) (sym at) ∙ found x xs apart h in
+    let beside : AreDoingBeside xs x = all_beside x xs (sym (ap (λ (o : Option Attachment). option_map_or (is_done_beside xs) o true) there) ∙ e) in
     record { sends = λ s. still_done sends port x xs at (beside.sends s); receives = λ r. still_done receives port x xs at (beside.receives r) }
 
-less_beyond : (port : ℕ) (xs : List Attachment) → list_all (is_covered port xs) xs ≡ true → (x : Attachment) → Has x xs → AreDoing (without_customer_port port xs) x
-less_beyond port xs all x h = less_at port xs x (is_at_other_port port x) refl (all_pass (is_covered port xs) x xs all h) h
+less_beyond : (port : ℕ) (xs : List Attachment) → ArePairwise AgreesWith xs → is_covered port xs ≡ true → (x : Attachment) → Has x xs → AreDoing (without_customer_port port xs) x
+less_beyond port xs apart covered x h = less_at port xs x (is_at_other_port port x) refl apart covered h
 
 -- ---- the members are the same
 
@@ -171,7 +180,7 @@ covered_member s a bs does = record {
   takes = λ e. let d : IsDoneBy receives a bs = does.receives e in record { item = member_of s d.by; has = has_map (member_of s) d.by bs d.has; is = λ i. (d.vid i, d.isid i); done = d.done };
 }
 
-members_covered : (s : SystemId) (xs ys : List Attachment) → ((a : Attachment) → Has a xs → AreDoing ys a) → AreCovered (map (member_of s) xs) (map (member_of s) ys)
+pub members_covered : (s : SystemId) (xs ys : List Attachment) → ((a : Attachment) → Has a xs → AreDoing ys a) → AreCovered (map (member_of s) xs) (map (member_of s) ys)
 members_covered s xs ys within m h =
     let x = map_has (member_of s) m xs h in
     subst (λ n. IsCovered n (map (member_of s) ys)) (sym x.2) (covered_member s x.0 ys (within x.0 x.1))
@@ -191,7 +200,7 @@ same_fragments l ms ns same (suc n) k =
     let rest = same_fragments l ms ns same n (k + 1) in
     λ i. first i ∷ rest i
 
-same_bodies : (v : BridgeView) (attached : List Attachment) (learned : Addresses) → IsLocal (local_of v) → IsLocal (local_of (attached_to attached v))
+pub same_bodies : (v : BridgeView) (attached : List Attachment) (learned : Addresses) → IsLocal (local_of v) → IsLocal (local_of (attached_to attached v))
     → ((a : Attachment) → Has a attached → AreDoing v.attached a) → ((a : Attachment) → Has a v.attached → AreDoing attached a)
     → bodies_of (attached_to attached (with_learned learned v)) ≡ bodies_of v
 unfolding bodies_of
@@ -234,11 +243,11 @@ attached_unsaid m n a ready can done is =
     (more_within a m.tenant.attached done) (more_beyond a m.tenant.attached)
 
 -- a port was detached from a service in which others do what it did
-pub detached_unsaid : (m n : Machine) (port : ℕ) → IsReady m → IsInput (view_of m) (detach port) → list_all (is_covered port m.tenant.attached) m.tenant.attached ≡ true
+pub detached_unsaid : (m n : Machine) (port : ℕ) → IsReady m → IsInput (view_of m) (detach port) → is_covered port m.tenant.attached ≡ true
     → n ≡ record m { tenant = after_detach m.tenant port } → IsAfter (with_attached (without_customer_port port m.tenant.attached) (with_port_forgotten port (view_of m))) n
 detached_unsaid m n port ready attached covered is =
     let left : List Attachment = without_customer_port port m.tenant.attached in
     let learned : Addresses = (after_detach m.tenant port).learned in
     after_same _ _ n (ap (with_attached left) (forgotten_is m port ready.current.ports.me))
     (still_after m n (detach port) learned ready attached is
-    (less_within port m.tenant.attached) (less_beyond port m.tenant.attached covered))
+    (less_within port m.tenant.attached) (less_beyond port m.tenant.attached ready.sound.config.attachments_apart covered))

@@ -1,9 +1,10 @@
 -- A machine to which something else is attached than its own LSPs say.
-use Rattle.std.specs.Prelude.{◌≡◌, ℕ, List, Bool, not, ◌&&◌, ◌||◌, ◌==◌}
+use Rattle.std.specs.Prelude.{◌≡◌, ℕ, List, Bool, true, not, ◌&&◌, ◌||◌, ◌==◌}
 use Rattle.std.specs.List.{list_any}
+use Rattle.std.specs.Option.{option_map_or}
 use Rattle.spb_types.specs.Service.{sends, receives}
 use Rattle.spb_types.specs.declared.service.Attachment.{Attachment}
-use Rattle.forwarding.specs.Ports.{is_at_other_port, is_in}
+use Rattle.forwarding.specs.Ports.{attachment_of, is_at_other_port, is_in}
 use Rattle.spb_content.specs.Local.{IsLocal}
 use Rattle.bridge_api.specs.Own.{local_of}
 use Rattle.bridge_control.specs.declared.machine.Machine.{Machine}
@@ -33,6 +34,6 @@ abbrev pub is_done_beside : List Attachment → Attachment → Bool
 is_done_beside attached a =
     (not (sends a.mode) || sends_beside attached a) && (not (receives a.mode) || receives_beside attached a)
 
--- whether an attachment is at another port than this, or other ports do in its service what it does
-abbrev pub is_covered : ℕ → List Attachment → Attachment → Bool
-is_covered port attached a = is_at_other_port port a || is_done_beside attached a
+-- whether other ports do what a customer port does in the service that it is attached to, if it is to any
+abbrev pub is_covered : ℕ → List Attachment → Bool
+is_covered port attached = option_map_or (is_done_beside attached) (attachment_of port attached) true

@@ -10,3 +10,4 @@ pub mod Kept
 pub mod Plane
 pub mod Attaching
 pub mod Reading
+pub mod Repeats

@@ -1,7 +1,8 @@
-use Rattle.std.specs.Prelude.{◌≡◌, ℕ, List, Bool, false, ◌&&◌, not}
+use Rattle.std.specs.Prelude.{◌≡◌, ℕ, List, Bool, true, false, ◌&&◌, not, Some, slice_get}
 use Rattle.std.specs.List.{AllByRecursion, list_any}
 use Rattle.bridge_api.specs.declared.port.BridgePort.{BridgePort}
 use Rattle.adjacency.specs.declared.port.Adjacency.{Adjacency}
+use Rattle.adjacency.specs.declared.state.AdjState.TheVariants.{Up}
 use Rattle.adjacency.specs.Adjacency.{is_down}
 use Rattle.bridge_api.specs.Ticking.{later}
 use Rattle.bridge_api.specs.Laws.{IsSoundPort}
@@ -25,6 +26,15 @@ pub record IsSameEnd (a b : Adjacency) : Type 0 where
 -- a port with another holding count
 abbrev pub with_hold : ℕ → BridgePort → BridgePort
 with_hold hold port = record port { adjacency = record port.adjacency { hold = hold } }
+
+-- no CSNPs are due at a port, and where it has carrier it is Up and keeps its neighbour for three seconds
+pub record KeepsPort (port : BridgePort) : Type 0 where
+  pub undue : port.csnp_due ≡ false
+  pub kept : port.adjacency.carrier ≡ true → (port.adjacency.state ≡ Up) × (port.adjacency.hold ≡ 3)
+
+-- so it is with each of these ports
+abbrev pub KeepsEach : List BridgePort → Type 0
+KeepsEach ports = (place : ℕ) (port : BridgePort) → slice_get ports place ≡ Some port → KeepsPort port
 
 -- whether the neighbour at a port is lost in this second
 abbrev pub loses : BridgePort → Bool

@@ -1,10 +1,9 @@
 //! Attaching a customer port to a service, and detaching it.
 ghost use Rattle.std.specs.Prelude.{◌≡◌, OnOk};
-ghost use Rattle.std.specs.List.{list_all};
 ghost use Rattle.bridge_api.specs.Own as api;
 ghost use Rattle.bridge_api.specs.Services as services;
 ghost use Rattle.bridge_control.specs.Machine.{view_of, IsReady, IsAfter};
-ghost use Rattle.bridge_control.specs.Attaching.{CanTell, is_beside, sends_beside, receives_beside, is_done_beside, is_covered};
+ghost use Rattle.bridge_control.specs.Attaching.{CanTell, is_beside, is_done_beside, is_covered};
 
 use crate::machine::Machine;
 use forwarding::detach;
@@ -33,7 +32,7 @@ impl Machine {
         requires attached { services.IsAttachedPort (view_of self.old) port }
         ensures { OnOk result (IsAfter (services.without_attachment port (view_of self.old)) self.new) }
     {
-        let is_said = are_covered(port, self.tenant.attached.as_slice());
+        let is_said = is_covered(port, self.tenant.attached.as_slice());
         detach(self.alloc, &mut self.tenant, port)?;
         if is_said {
             return Ok(());
@@ -58,40 +57,33 @@ fn is_beside(b: &Attachment, a: &Attachment) -> bool
     b.isid.value == a.isid.value && b.vid.value == a.vid.value && b.port != a.port
 }
 
-/// Whether another port sends to the service of an attachment.
-fn sends_beside(a: &Attachment, attached: &[Attachment]) -> bool
-    ensures { result ≡ sends_beside attached.now a.now }
-{
-    attached.iter().any(|b| is_beside(b, a) && b.mode.sends())
-}
-
-/// Whether another port receives from the service of an attachment.
-fn receives_beside(a: &Attachment, attached: &[Attachment]) -> bool
-    ensures { result ≡ receives_beside attached.now a.now }
-{
-    attached
-        .iter()
-        .any(|b| is_beside(b, a) && b.mode.receives())
-}
-
-/// Whether other ports do in the service of an attachment what this does there.
+/// Whether other ports do in the service of an attachment what this does there. It looks no further than the last that
+/// is needed for it.
 fn is_done_beside(a: &Attachment, attached: &[Attachment]) -> bool
     ensures { result ≡ is_done_beside attached.now a.now }
 {
-    (!a.mode.sends() || sends_beside(a, attached))
-        && (!a.mode.receives() || receives_beside(a, attached))
+    let mut sends = !a.mode.sends();
+    let mut receives = !a.mode.receives();
+    for b in attached {
+        if is_beside(b, a) {
+            sends |= b.mode.sends();
+            receives |= b.mode.receives();
+            if sends && receives {
+                return true;
+            }
+        }
+    }
+    sends && receives
 }
 
-/// Whether an attachment is at another port than this, or other ports do in its service what it does.
-fn is_covered(a: &Attachment, port: u16, attached: &[Attachment]) -> bool
-    ensures { result ≡ is_covered port attached.now a.now }
+/// Whether other ports do what a customer port does in the service that it is attached to, if it is to any.
+fn is_covered(port: u16, attached: &[Attachment]) -> bool
+    ensures { result ≡ is_covered port attached.now }
 {
-    a.port != port || is_done_beside(a, attached)
-}
-
-/// Whether other ports do what a customer port does in each service that it is attached to.
-fn are_covered(port: u16, attached: &[Attachment]) -> bool
-    ensures { result ≡ list_all (is_covered port attached.now) attached.now }
-{
-    attached.iter().all(|a| is_covered(a, port, attached))
+    for a in attached {
+        if a.port == port {
+            return is_done_beside(a, attached);
+        }
+    }
+    true
 }

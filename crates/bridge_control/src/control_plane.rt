@@ -1,6 +1,6 @@
 //! The control plane as a kind of bridge uses it: each call refuses a failed bridge, works on the machine, and keeps or
 //! forgets the tables.
-ghost use Rattle.std.specs.Prelude.{◌≡◌, true, false, ◌↔◌, ◌&&◌, IfOk, IfSome, OnOk, OnErr, IsErr, Some};
+ghost use Rattle.std.specs.Prelude.{◌≡◌, ◌≤◌, true, false, ◌↔◌, ◌&&◌, IfOk, IfSome, OnOk, OnErr, IsErr, Some};
 ghost use Rattle.std.specs.Option.{option_map, option_copied};
 ghost use Rattle.spb_types.specs.Graph.{IsValidFor};
 ghost use Rattle.spb_types.specs.Tables.{unicast_in, group_in};
@@ -15,6 +15,7 @@ ghost use Rattle.bridge_api.specs.Ticking.{after_tick, sent_in_tick};
 ghost use Rattle.bridge_api.specs.Customers.{IsCustomerFrame, after_entry, moved_by_entry, moved_by_receive};
 ghost use Rattle.bridge_api.specs.Step.{with_wire, with_moved, Gains, GainsMoved};
 ghost use Rattle.bridge_api.specs.Graph.{read_graph, own_tables, own_path};
+ghost use Rattle.bridge_api.specs.Calm.{IsCalmFor, aged_by};
 ghost use Rattle.bridge_control.specs.Carrying.{carries_customer};
 
 use crate::kept_tables::copy_of;
@@ -413,6 +414,34 @@ impl ControlPlane {
             self.shared.as_ref(),
             self.machine.id.system,
         );
+    }
+
+    /// For how many seconds it can be told that nothing would come to pass but that lifetimes fall, as long as each
+    /// neighbour says hello in each of them; 0 where something would.
+    pub fn calm_seconds(&self) -> u16
+        requires { self.now.blank ≡ false }
+        ensures { 1 ≤ result → IsCalmFor result self.now.view }
+    {
+        if self.failed {
+            return 0;
+        }
+        self.machine.calm_seconds()
+    }
+
+    /// So many seconds pass in calm, with a hello of each neighbour in each of them, all at once. Takes no memory.
+    pub fn pass_calm(&mut self, seconds: u16)
+        requires made { self.old.blank ≡ false }
+        requires calm { IsCalmFor seconds self.old.view }
+        ensures view { self.new.view ≡ aged_by seconds self.old.view }
+        ensures still_made { self.new.blank ≡ false }
+    {
+        give_back(
+            &mut self.reading,
+            self.shared.as_ref(),
+            self.machine.id.system,
+        );
+        self.tables = None;
+        self.machine.pass_calm(seconds);
     }
 
     /// The best path to a system in a base VID over the LSPs that the bridge holds, with its cost. None exactly where

@@ -4,10 +4,12 @@
 //!
 //! [`ControlPlane`] is a `Machine` with two marks, whether it is blank, and whether a call found no memory, and with the
 //! tables, while they are kept. What the machine makes of a frame stands in `hearing`, of a change at a port in
-//! `changing`, of a customer port that is attached or detached in `attaching`, of a customer's frame in `customers`, and
-//! of a second in `ticking`; what a frame brings in `parsing`, in `heard` for the hello that came last to a port, and in
-//! `held_lsp` for an LSP that is held; what is sent in `hello`, `made` and `sending`, and tables and paths in `reading`,
-//! `kept_tables`, `shared_reading` for what they are made of, and `shared` for the place where bridges share it.
+//! `changing`, of a customer port that is attached or detached in `attaching`, and in `repeats` for ports that add
+//! nothing to what the bridge says, of a customer's frame in `customers`, of a second in `ticking`, and of seconds in
+//! which nothing comes to pass in `calm`; what a frame brings in `parsing`, in `heard` for the hello that came last to a
+//! port, and in `held_lsp` for an LSP that is held; what is sent in `hello`, `made` and `sending`, and tables and paths
+//! in `reading`, `kept_tables`, `shared_reading` for what they are made of, and `shared` for the place where bridges
+//! share it.
 //!
 //! # A kind of bridge
 //!
@@ -31,11 +33,13 @@
 //! - The bodies of the own LSPs are kept. They are made anew, in time and memory of order p + b and for sorting what is
 //!   attached, where a port comes Up or leaves Up, where any neighbour is lost, where the metric of an Up port is set,
 //!   even to what it was, and where a customer port is attached or detached that sends or receives in its service as no
-//!   other port does; no other call makes them. Attaching and detaching look for another port of the service that
-//!   sends, and for one that receives, in time of what is attached. A call that made the bodies anew compares them with
-//!   those that are held: a binary search for each of the 16 own numbers, and b bytes. Originating takes time and memory
-//!   of the bytes of the LSPs that are originated. What is heard in LSPs and sequence numbers PDUs makes no such
-//!   comparison.
+//!   other port does; no other call makes them. Where the first two ports that are attached are of one service, and the
+//!   second adds nothing to the first, each that adds nothing to one before it is left out first, in one pass.
+//!   Attaching and detaching look for other ports of the service that send and receive, in one pass over what is
+//!   attached, which ends where they are found; detaching first looks for its own port. A call that made the bodies
+//!   anew compares them with those that are held: a binary search for each of the 16 own numbers, and b bytes.
+//!   Originating takes time and memory of the bytes of the LSPs that are originated. What is heard in LSPs and sequence
+//!   numbers PDUs makes no such comparison.
 //! - The hello of each port is kept as a frame, and so is the set of the Up ports. A hello is made anew where the state,
 //!   the neighbour or its circuit changes at its port, in constant time and with memory for a few short vectors; the set
 //!   then goes over the ports once. Where a neighbour is lost in a second, the hellos of all ports are made anew.
@@ -49,6 +53,9 @@
 //!   Up port with SSN, for the entries and to clear these. It goes over the database once for each port at which CSNPs
 //!   are due and for each at which a neighbour is lost. Memory is taken for these places and for their frames, for each
 //!   LSP with SRM once, and for each CSNP and PSNP.
+//! - Telling for how many seconds nothing would come to pass takes constant time where flags stand, or where something
+//!   was changed since the last tick; and else goes once over the ports, and looks up each own LSP that has a body.
+//!   However many such seconds pass at once, this goes once over the database, and takes no memory.
 //! - A hello takes time in proportion to its length. The one that came last to a port is kept there: where the same
 //!   frame comes again it is compared, and not read or kept again. One that only begins the holding count anew changes
 //!   its port and nothing else. Memory is taken where another hello comes than the last time, for its frame, and where one changes
@@ -77,6 +84,7 @@ pub use control_plane::ControlPlane;
 pub use shared::SharedReading;
 
 mod attaching;
+mod calm;
 mod changing;
 mod control_plane;
 mod customers;
@@ -90,6 +98,7 @@ mod made;
 mod parsing;
 mod ports;
 mod reading;
+mod repeats;
 mod sending;
 mod shared;
 mod shared_reading;

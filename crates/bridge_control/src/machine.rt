@@ -14,6 +14,7 @@ ghost use Rattle.bridge_api.specs.Tables.{own_tables};
 use crate::heard::{HeardHello, none_heard};
 use crate::hello::hellos_of;
 use crate::ports::{bare_ports, neighbours_at, up_ports};
+use crate::repeats::{begins_with_repeat, without_repeats};
 use bridge_api::{BridgeConfig, BridgePort, DropReason, Drops, attached_members};
 use customer_learning::Learned;
 use flooding::{OWN_NUMBERS, Own, begin_all, keep_fresh, settle};
@@ -21,7 +22,9 @@ use forwarding::Tenant;
 use lsdb::Database;
 use shared_frames::Frame;
 use spb_content::{BridgeConfigFacts, Local, bodies_of};
-use spb_types::{BridgeId, LEVEL_1, Mac, NoMemory, PortSet, Seq, SourceId, SystemId, VidPlan};
+use spb_types::{
+    Attachment, BridgeId, LEVEL_1, Mac, NoMemory, PortSet, Seq, SourceId, SystemId, VidPlan,
+};
 use std::alloc::Global;
 
 /// The id of a bridge that isn't configured.
@@ -132,18 +135,14 @@ impl Machine {
         })
     }
 
-    /// What the bridge says of itself.
-    fn local(&self) -> Result<Local, NoMemory>
+    /// What the bridge says of itself where this is attached.
+    fn local(&self, attached: &[Attachment]) -> Result<Local, NoMemory>
         requires { length self.now.ports.items ≤ 32 }
-        ensures { IfOk result (λ local. local ≡ api.local_of (view_of self.now)) }
+        ensures { IfOk result (λ local. local ≡ api.local_of (record (view_of self.now) { attached = attached.now })) }
     {
         let vids = Vec::from_slice(self.alloc, self.vids.as_slice())?;
         let neighbours = neighbours_at(self.alloc, self.ports.as_slice())?;
-        let attached = attached_members(
-            self.alloc,
-            self.id.system,
-            self.tenant.attached.as_slice(),
-        )?;
+        let attached = attached_members(self.alloc, self.id.system, attached)?;
         Ok(Local {
             config: BridgeConfigFacts {
                 id: self.id,
@@ -155,15 +154,30 @@ impl Machine {
         })
     }
 
-    /// The bodies of the own LSPs, from number 0 on.
+    /// The bodies of the own LSPs where this is attached, from number 0 on.
     #[tactic(auto, unfolding(bridge_api::specs::Own::bodies_of, flooding::specs::Own::own_numbers))]
+    fn bodies_with(&self, attached: &[Attachment]) -> Result<Vec<Option<Seq<u8>>>, NoMemory>
+        requires few { length self.now.ports.items ≤ 32 }
+        requires local { IsLocal (api.local_of (record (view_of self.now) { attached = attached.now })) }
+        ensures { IfOk result (λ bodies. bodies.items ≡ api.bodies_of (record (view_of self.now) { attached = attached.now })) }
+    {
+        let local = self.local(attached)?;
+        bodies_of(self.alloc, &local, OWN_NUMBERS, LEVEL_1)
+    }
+
+    /// The bodies of the own LSPs, from number 0 on. Where many ports stand beside each other in one service, one or
+    /// two of them say what all do.
     fn bodies(&self) -> Result<Vec<Option<Seq<u8>>>, NoMemory>
         requires few { length self.now.ports.items ≤ 32 }
         requires local { IsLocal (api.local_of (view_of self.now)) }
         ensures { IfOk result (λ bodies. bodies.items ≡ api.bodies_of (view_of self.now)) }
     {
-        let local = self.local()?;
-        bodies_of(self.alloc, &local, OWN_NUMBERS, LEVEL_1)
+        let attached = self.tenant.attached.as_slice();
+        if !begins_with_repeat(attached) {
+            return self.bodies_with(attached);
+        }
+        let few = without_repeats(self.alloc, attached)?;
+        self.bodies_with(few.as_slice())
     }
 
     /// Makes the bodies of the own LSPs anew, after an Up port, its neighbour, its metric or what is attached changed.

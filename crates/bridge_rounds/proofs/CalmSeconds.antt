@@ -48,7 +48,7 @@ not_down Down up = absurd cc
 not_down Initializing up = absurd cc
 not_down Up up = refl
 
-second_is : (a : Adjacency) → is_up a.state ≡ true → 2 ≤ a.hold → after_second a ≡ record a { hold = a.hold - 1 }
+pub second_is : (a : Adjacency) → is_up a.state ≡ true → 2 ≤ a.hold → after_second a ≡ record a { hold = a.hold - 1 }
 second_is a up many =
     ap (λ b. if b then a else (if a.hold == 1 then down a.carrier else record a { hold = a.hold - 1 })) (not_down a.state up)
     ∙ ap (λ b. if b then down a.carrier else record a { hold = a.hold - 1 }) (ne_eqb a.hold 1 (λ e. absurd (omega (arith, many, e))))

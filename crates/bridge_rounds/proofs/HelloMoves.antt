@@ -39,7 +39,7 @@ noted_adjacency Discarded port = refl
 
 module _ (p : ℕ) (bytes : List ℕ) (h : HelloValue) (way : ThreeWay) (is : parsed bytes ≡ parsing.hello h way) where
   -- at a port with carrier it is heard
-  hello_heard : (v : BridgeView) (port : BridgePort) → port_at v p ≡ Some port → port.adjacency.carrier ≡ true → step (frame p bytes) v ≡ heard_hello h way p port v
+  pub hello_heard : (v : BridgeView) (port : BridgePort) → port_at v p ≡ Some port → port.adjacency.carrier ≡ true → step (frame p bytes) v ≡ heard_hello h way p port v
   unfolding after_receive
   hello_heard v port there carrier =
       ap (λ (o : Option BridgePort). heard_at p bytes o v) there

@@ -27,3 +27,8 @@ pub mod SpentNumbers
 pub mod DueSummaries
 pub mod StayingUp
 pub mod SaysSame
+pub mod CalmLives
+pub mod CalmBridges
+pub mod CalmSent
+pub mod CalmRounds
+pub mod SomeCalm

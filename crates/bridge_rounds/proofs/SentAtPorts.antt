@@ -28,7 +28,7 @@ none_by : (b : Bool) (s : ℕ × List ℕ) (ss : List (ℕ × List ℕ)) (p : �
 none_by true s ss p here none rest = absurd (none s.1 (inl (eqb-true s.0 p here, refl)))
 none_by false s ss p apart none rest = rest
 
-none_at : (frames : List (ℕ × List ℕ)) (p : ℕ) → ((bytes : List ℕ) → IsSent frames p bytes → ⊥) → frames_at p frames ≡ []
+pub none_at : (frames : List (ℕ × List ℕ)) (p : ℕ) → ((bytes : List ℕ) → IsSent frames p bytes → ⊥) → frames_at p frames ≡ []
 none_at [] p none = refl
 none_at (s ∷ ss) p none = none_by (s.0 == p) s ss p refl none (none_at ss p (λ bytes some. none bytes (inr some)))
 
@@ -45,7 +45,7 @@ both_by : (b : Bool) (s : ℕ × List ℕ) (xs ys : List (ℕ × List ℕ)) (p :
 both_by true s xs ys p rest = ap (λ (fs : List (List ℕ)). s.1 ∷ fs) rest
 both_by false s xs ys p rest = rest
 
-at_both : (xs ys : List (ℕ × List ℕ)) (p : ℕ) → frames_at p (xs ++ ys) ≡ frames_at p xs ++ frames_at p ys
+pub at_both : (xs ys : List (ℕ × List ℕ)) (p : ℕ) → frames_at p (xs ++ ys) ≡ frames_at p xs ++ frames_at p ys
 at_both [] ys p = refl
 at_both (s ∷ xs) ys p = both_by (s.0 == p) s xs ys p (at_both xs ys p)
 
@@ -97,10 +97,10 @@ module _ (system : SystemId) (q : ℕ) (port : BridgePort) (db : Lsps) (most : �
 
 -- ---- and of all ports, from number q on
 
-none_before : (system : SystemId) (q : ℕ) (ports : List BridgePort) (db : Lsps) (p : ℕ) → p < q → frames_at p (sent_from system q ports db) ≡ []
+pub none_before : (system : SystemId) (q : ℕ) (ports : List BridgePort) (db : Lsps) (p : ℕ) → p < q → frames_at p (sent_from system q ports db) ≡ []
 none_before system q ports db p low = none_at (sent_from system q ports db) p (λ bytes is. let at = sent_where system q ports db p bytes is in absurd (omega (arith, at.number, low)))
 
-none_beside : (system : SystemId) (q : ℕ) (port : BridgePort) (db : Lsps) (p : ℕ) → q ≢ p → frames_at p (sent_at system q port db) ≡ []
+pub none_beside : (system : SystemId) (q : ℕ) (port : BridgePort) (db : Lsps) (p : ℕ) → q ≢ p → frames_at p (sent_at system q port db) ≡ []
 none_beside system q port db p apart = none_at (sent_at system q port db) p (λ bytes is. apart (at_port system q port db p bytes is).0)
 
 ports_few : (most : ℕ) (system : SystemId) (p q : ℕ) (ports : List BridgePort) (db : Lsps) → 1 ≤ most → len db ≤ most → length (frames_at p (sent_from system q ports db)) ≤ most_at most

@@ -8,3 +8,4 @@ pub mod Hearing
 pub mod Staying
 pub mod LinkFlags
 pub mod LinkFrames
+pub mod Calm

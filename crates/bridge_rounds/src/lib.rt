@@ -4,6 +4,7 @@
 //! There is no code here: each law is the contract of a function that does nothing. The laws of settling stand on them.
 #![tactic(auto)]
 
+pub use calm::calm_seconds_pass;
 pub use flags::{equal_claims_settle_flags, lsps_are_acknowledged};
 pub use hearing::{
     control_is_silent, frames_are_silent, frames_keep_living, rounds_hold_ids, spent_stays,
@@ -17,6 +18,7 @@ pub use seconds::{
     seconds_are_calm, seconds_carry_none, seconds_lower, seconds_send_at_port, summaries_are_due,
 };
 
+mod calm;
 mod flags;
 mod hearing;
 mod inbox;

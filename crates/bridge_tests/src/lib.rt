@@ -5,6 +5,8 @@
 #![tactic(auto)]
 
 #[cfg(test)]
+mod calm;
+#[cfg(test)]
 mod drops;
 #[cfg(test)]
 mod fixtures;

@@ -4,6 +4,7 @@ ghost use Rattle.spb_types.specs.Graph.{IsBridge, IsValid};
 
 use crate::fixtures::{are_bytes, are_equal};
 use crate::trees::{ends, square, tree};
+use ect_trees::Roads;
 use spb_types::{Graph, Mac, SystemId};
 use std::alloc::Global;
 use std::process::Abort;
@@ -24,6 +25,13 @@ const WITHOUT_FOUR: [Entry; 4] = entries!(Entry::Before(system!(1)), Entry::Unre
 
 const THE_LONG_WAY: [Entry; 4] = entries!(Entry::Before(system!(4)), Entry::Before(system!(3)));
 
+/// The roads of the square.
+fn square_roads(rt: &impl Abort, alloc: Global) -> Roads
+    ensures { IsValid result }
+{
+    Roads::over(alloc, square(rt, alloc)).expect(rt, "out of memory")
+}
+
 /// The first of four bridges.
 fn first_of_four(rt: &impl Abort, graph: &Graph) -> SystemId
     ensures from { IsBridge graph.now result }
@@ -37,9 +45,9 @@ fn first_of_four(rt: &impl Abort, graph: &Graph) -> SystemId
 
 /// Asserts what is answered of entries that are to prove the best paths from 1 in the square.
 fn check_verdict(rt: &impl Abort, alloc: Global, mask: u8, entries: &[Entry; 4], want: Verdict) {
-    let graph = square(rt, alloc);
-    let from = first_of_four(rt, &graph);
-    let verdict = check(alloc, &graph, mask, from, entries).expect(rt, "out of memory");
+    let roads = square_roads(rt, alloc);
+    let from = first_of_four(rt, roads.graph());
+    let verdict = check(alloc, &roads, mask, from, entries).expect(rt, "out of memory");
     are_equal(rt, &verdict, &want);
 }
 
@@ -55,11 +63,11 @@ fn entries_of_the_best_paths_pass_alone(rt: HostRuntime) {
 
 /// Asserts that the best paths from 1 in the square under a mask have these entries.
 fn check_proved(rt: &impl Abort, alloc: Global, mask: u8, want: &[Entry; 4]) {
-    let graph = square(rt, alloc);
-    let entries = prove(alloc, &graph, mask, system!(1)).expect(rt, "out of memory");
+    let roads = square_roads(rt, alloc);
+    let entries = prove(alloc, &roads, mask, system!(1)).expect(rt, "out of memory");
     are_equal(rt, &entries.as_slice(), &want.as_slice());
-    let tree = tree(rt, alloc, &graph, 1, mask);
-    let same = entries_in(alloc, &graph, &tree).expect(rt, "out of memory");
+    let tree = tree(rt, alloc, roads.graph(), 1, mask);
+    let same = entries_in(alloc, roads.graph(), &tree).expect(rt, "out of memory");
     are_equal(rt, &same.as_slice(), &want.as_slice());
 }
 
@@ -71,9 +79,9 @@ fn the_best_paths_are_proved_by_their_entries(rt: HostRuntime) {
 
 /// Asserts which way from 1 to 4 is read off entries of the square, if one is.
 fn check_way(rt: &impl Abort, alloc: Global, entries: &[Entry; 4], want: Option<&[u8]>) {
-    let graph = square(rt, alloc);
-    let _from = first_of_four(rt, &graph);
-    let found = along(alloc, &graph, entries, system!(4)).expect(rt, "out of memory");
+    let roads = square_roads(rt, alloc);
+    let _from = first_of_four(rt, roads.graph());
+    let found = along(alloc, &roads, entries, system!(4)).expect(rt, "out of memory");
     match (found, want) {
         (Some(path), Some(want)) => {
             are_equal(rt, &path.cost, &20);

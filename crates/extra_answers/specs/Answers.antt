@@ -20,7 +20,7 @@ use Rattle.report.specs.Changes.{whatif_text}
 use Rattle.report.specs.Checking.{proof_text, check_yes_text, check_no_text}
 use Rattle.scenario.specs.declared.command.Command.{Command}
 use Rattle.scenario.specs.declared.extra.Extra.{Extra}
-use Rattle.scenario.specs.declared.extra.Extra.TheVariants.{WhatIf, Proof, Check}
+use Rattle.scenario.specs.declared.extra.Extra.TheVariants.{WhatIf, Proof, Check, Settle}
 use Rattle.spb_world.specs.World.{World, Bridges, names_of, world_graph}
 use Rattle.spb_world.specs.Systems.{names_on}
 use Rattle.table_changes.specs.declared.differing.Change.{Change}
@@ -84,8 +84,10 @@ check_in w from to entries (Some plan) =
 
 -- ---- each question
 
--- the lines that are answered to a question that isn't refused
+-- the lines that are answered to a question that isn't refused. To settle is no question: it changes the network, and is
+-- judged apart from these
 abbrev pub extra_text : World → Extra → List ℕ
 extra_text w (WhatIf change) = whatif_text (named_changes w change)
 extra_text w (Proof from to vid) = proof_in w from to (planned_for w.vids vid)
 extra_text w (Check from to vid entries) = check_in w from to entries (planned_for w.vids vid)
+extra_text w Settle = []

@@ -12,7 +12,7 @@ use spb_types::NoMemory;
 use spb_world::World;
 use std::alloc::Global;
 
-/// The lines that are answered to a question that isn't refused.
+/// The lines that are answered to a question that isn't refused. `Settle` is no question, and gets none.
 pub fn answer(alloc: Global, world: &World, extra: &Extra) -> Result<Vec<u8>, NoMemory>
     requires sound { Sound world.now }
     requires accepted { extra_refusal world.now extra.now ≡ None }
@@ -27,5 +27,6 @@ pub fn answer(alloc: Global, world: &World, extra: &Extra) -> Result<Vec<u8>, No
             vid,
             entries,
         } => check_answer(alloc, world, *from, *to, *vid, entries.as_slice()),
+        Extra::Settle => Ok(Vec::new(alloc)),
     }
 }

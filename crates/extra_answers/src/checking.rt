@@ -7,6 +7,8 @@ ghost use Rattle.extra_answers.specs.Entries as entries;
 ghost use Rattle.extra_answers.specs.Refusing.{check_refusal};
 
 use crate::naming::{planned_for, system_named};
+use crate::wiring::roads_of;
+use ect_trees::Roads;
 use report::{check_no_text, check_yes_text};
 use spb_types::{EntryWord, Name, NoMemory, Path, SystemId, ect_mask};
 use spb_world::World;
@@ -48,7 +50,34 @@ fn yes_text(alloc: Global, world: &World, path: Option<Path>) -> Result<Vec<u8>,
     }
 }
 
-/// The answer of entries that are to prove the best paths from a bridge under a mask, with the one to another.
+/// The answer of entries that are to prove the best paths from a bridge under a mask, with the one to another, over the
+/// roads of the wiring.
+fn checked_over(
+    alloc: Global,
+    world: &World,
+    roads: &Roads,
+    mask: u8,
+    from: SystemId,
+    to: SystemId,
+    entries: &[Entry],
+) -> Result<Vec<u8>, NoMemory>
+    requires sound { Sound world.now }
+    requires roads { roads.now ≡ world_graph world.now }
+    requires from { IsBridge (world_graph world.now) from }
+    requires long { length entries.now ≡ length world.now.bridges }
+    ensures { IfOk result (λ text. text.items ≡ answers.checked_text world.now mask from to entries.now) }
+{
+    let verdict = check(alloc, roads, mask, from, entries)?;
+    match verdict {
+        Verdict::No(place) => check_no_text(alloc, place),
+        Verdict::Yes => {
+            let path = along(alloc, roads, entries, to)?;
+            yes_text(alloc, world, path)
+        }
+    }
+}
+
+/// The same, over the roads that are kept, or over such that are made for this question alone.
 fn checked(
     alloc: Global,
     world: &World,
@@ -62,13 +91,11 @@ fn checked(
     requires long { length entries.now ≡ length world.now.bridges }
     ensures { IfOk result (λ text. text.items ≡ answers.checked_text world.now mask from to entries.now) }
 {
-    let graph = world.graph(alloc)?;
-    let verdict = check(alloc, &graph, mask, from, entries)?;
-    match verdict {
-        Verdict::No(place) => check_no_text(alloc, place),
-        Verdict::Yes => {
-            let path = along(alloc, &graph, entries, to)?;
-            yes_text(alloc, world, path)
+    match world.roads() {
+        Some(roads) => checked_over(alloc, world, roads, mask, from, to, entries),
+        None => {
+            let roads = roads_of(alloc, world)?;
+            checked_over(alloc, world, &roads, mask, from, to, entries)
         }
     }
 }

@@ -2,13 +2,15 @@
 ghost use Rattle.std.specs.Prelude.{◌≡◌, IfOk};
 ghost use Rattle.report.specs.Checking as texts;
 ghost use Rattle.spb_tlvs.specs.Capability.{IsTree};
-ghost use Rattle.spb_world.specs.World.{Sound};
+ghost use Rattle.spb_world.specs.World.{Sound, world_graph};
+ghost use Rattle.what_if.specs.Entries.{best_entries};
 ghost use Rattle.extra_answers.specs.Answers as answers;
 ghost use Rattle.extra_answers.specs.Entries as entries;
 
 use crate::naming::{name_of, planned_for, system_named};
+use crate::wiring::roads_of;
 use report::proof_text;
-use spb_types::{EntryWord, Name, NoMemory, VidPlan, ect_mask};
+use spb_types::{EntryWord, Name, NoMemory, SystemId, VidPlan, ect_mask};
 use spb_world::World;
 use std::alloc::Global;
 use what_if::{Entry, prove};
@@ -38,6 +40,26 @@ fn words_of(alloc: Global, world: &World, list: &[Entry]) -> Result<Vec<EntryWor
     Ok(words)
 }
 
+/// The entries that prove the best paths from a bridge under a mask, over the roads that are kept, or over such that are
+/// made for this question alone.
+fn entries_from(
+    alloc: Global,
+    world: &World,
+    mask: u8,
+    from: SystemId,
+) -> Result<Vec<Entry>, NoMemory>
+    requires { Sound world.now }
+    ensures { IfOk result (λ list. list.items ≡ best_entries (world_graph world.now) mask from) }
+{
+    match world.roads() {
+        Some(roads) => prove(alloc, roads, mask, from),
+        None => {
+            let roads = roads_of(alloc, world)?;
+            prove(alloc, &roads, mask, from)
+        }
+    }
+}
+
 /// The entries that prove the best paths from a bridge in a base VID.
 fn proved(
     alloc: Global,
@@ -50,8 +72,8 @@ fn proved(
     ensures { IfOk result (λ words. words.items
         ≡ entries.words_of world.now.bridges (answers.proved_entries world.now plan from)) }
 {
-    let graph = world.graph(alloc)?;
-    let list = prove(alloc, &graph, ect_mask(plan.ect), system_named(world, from))?;
+    let source = system_named(world, from);
+    let list = entries_from(alloc, world, ect_mask(plan.ect), source)?;
     words_of(alloc, world, list.as_slice())
 }
 

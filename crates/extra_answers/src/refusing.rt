@@ -56,7 +56,8 @@ fn check_refused(
         .or(reason_unless(are_all, Reason::Range))
 }
 
-/// Why a question is refused, if it is: the first reason in order of number that holds. Takes no memory.
+/// Why a question is refused, if it is: the first reason in order of number that holds. Takes no memory. `Settle` is no
+/// question, and nothing here refuses it.
 pub fn refusal(world: &World, extra: &Extra) -> Option<Reason>
     ensures { result ≡ refuse.extra_refusal world.now extra.now }
 {
@@ -69,5 +70,6 @@ pub fn refusal(world: &World, extra: &Extra) -> Option<Reason>
             vid,
             entries,
         } => check_refused(world, *from, *to, *vid, entries.as_slice()),
+        Extra::Settle => None,
     }
 }

@@ -120,6 +120,13 @@ impl Fabric {
         self.forest.roads().graph()
     }
 
+    /// The roads of the graph, made once.
+    pub fn roads(&self) -> &Roads
+        ensures { result.now ≡ self.now.graph }
+    {
+        self.forest.roads()
+    }
+
     /// The base VIDs, as they were given.
     pub fn vids(&self) -> &[VidPlan]
         ensures { result.now ≡ self.now.vids }

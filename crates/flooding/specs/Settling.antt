@@ -93,3 +93,13 @@ AreCurrent h = h.own.spent ≡ false → (number : ℕ) → number < own_numbers
 abbrev pub LastIfLive : ℕ → Holding → Type 0
 LastIfLive least h = (number : ℕ) → number < own_numbers → is_live (version_in (own_held h number)) ≡ true
     → (least ≤ lifetime_in (own_held h number)) × (lifetime_in (own_held h number) ≤ MAX_AGE)
+
+-- ---- fresh
+
+-- what is held, if it is live, isn't to be originated anew for its age in so many seconds
+abbrev pub IsFreshFor : ℕ → Option Entry → Type 0
+IsFreshFor seconds held = is_live (version_in held) ≡ true → seconds + 300 < lifetime_in held
+
+-- so it is with each own LSP
+abbrev pub AreFreshFor : ℕ → Holding → Type 0
+AreFreshFor seconds h = (number : ℕ) → number < own_numbers → IsFreshFor seconds (own_held h number)

@@ -17,7 +17,7 @@ pub use places::most_others;
 pub use put::put_near;
 pub use rules::{acknowledge, offer};
 pub use send::{lsp_of, to_send, write_held};
-pub use settling::{keep_fresh, settle};
+pub use settling::{fresh_seconds, keep_fresh, settle};
 pub use starting::{begin, begin_all};
 
 mod error;

@@ -1,4 +1,4 @@
-//! Own LSPs, brought up to date.
+//! Own LSPs, brought up to date, and for how long they stay so.
 ghost use Rattle.std.specs.Prelude.{ℕ, ◌≡◌, ◌≤◌, ◌<◌, ◌&&◌, not, true, false, length, is_some, if◌then◌else◌, OnOk, IfOk};
 ghost use Rattle.std.specs.Option.{option_map, option_copied};
 ghost use Rattle.std.specs.FinMap.{get};
@@ -185,6 +185,39 @@ fn has_old(db: &Database, own: &Own) -> bool
         }
     }
     false
+}
+
+/// For how many seconds no own LSP is to be originated anew for its age: 0 where one has 301 or less left, and where the
+/// system is spent. No number is looked at behind the first without a body.
+///
+/// Each own LSP is current, and the numbers without a body come last.
+pub fn fresh_seconds(db: &Database, own: &Own) -> u16
+    requires first { HasFirstNumbers own.now }
+    requires current { settling.AreCurrent (holding db.now own.now) }
+    ensures { 1 ≤ result → settling.AreFreshFor result (holding db.now own.now) }
+{
+    if own.spent {
+        return 0;
+    }
+    let mut seconds = u16::MAX;
+    for fragment in 0..OWN_NUMBERS {
+        if own.body(fragment).is_none() {
+            return seconds;
+        }
+        seconds = least_fresh(db.find(&own.id(fragment)), seconds);
+    }
+    seconds
+}
+
+/// The greatest number of seconds up to `most` in which what is held isn't to be originated anew for its age, or 0.
+fn least_fresh(held: Option<&Held>, most: u16) -> u16
+    ensures most { result ≤ most }
+    ensures fresh { 1 ≤ result → settling.IsFreshFor result (option_map entry_of (option_copied held.entry)) }
+{
+    match held {
+        Some(held) => held.lifetime.saturating_sub(REFRESH_AT + 1).min(most),
+        None => most,
+    }
 }
 
 /// Whether what is held has to be originated anew by its lifetime.

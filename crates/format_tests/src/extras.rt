@@ -18,6 +18,8 @@ proof A B 10|Proof { from: A, to: B, vid: 10 }
 check A B 10 -|Check { from: A, to: B, vid: 10, entries: Seq { items: [Start] } }
 check A D 10 - A A .|Check { from: A, to: D, vid: 10, entries: Seq { items: [Start, Before(A), Before(A), Unreached] } }
  check\tA A  010 . . a-_9\t- |Check { from: A, to: A, vid: 10, entries: Seq { items: [Unreached, Unreached, Before(a-_9), Start] } }
+settle|Settle
+ settle\t |Settle
 check check check 1 check proof|Check { from: check, to: check, vid: 1, entries: Seq { items: [Before(check), Before(proof)] } }";
 
 // Lines outside the grammar, each behind the column of the first word that doesn't fit.
@@ -62,7 +64,9 @@ const REFUSED: &str = "\
 16|check A B 10 - ..
 20|check A B 10 - A Z ?
 16|check A B 10 - abcdefghijklmnopq
-16|check A B 10 - # A";
+16|check A B 10 - # A
+8|settle x
+9|settle  #";
 
 // Lines that are no extras: what `parse_line` says of them isn't touched.
 const OTHERS: &str = "\
@@ -72,7 +76,10 @@ const OTHERS: &str = "\
 #
 # whatif down L1
 #whatif down L1
-settle
+#settle
+Settle
+settles
+settl
 WhatIf down L1
 what if down L1
 whatifs down L1
@@ -135,6 +142,7 @@ fn extras_that_do_not_fit_are_refused_at_their_column(rt: HostRuntime) {
 fn a_return_ends_no_word_of_an_extra(rt: HostRuntime) {
     check_refused(&rt, rt.alloc(), "11|proof A B 10\r");
     check_refused(&rt, rt.alloc(), "16|check A B 10 - A\r");
+    check_refused(&rt, rt.alloc(), "8|settle \r");
     check_other(&rt, rt.alloc(), "whatif\r");
 }
 
@@ -165,6 +173,7 @@ fn extras_are_no_commands(rt: HostRuntime) {
     check_no_command(&rt, rt.alloc(), "whatif down L1");
     check_no_command(&rt, rt.alloc(), "proof A B 10");
     check_no_command(&rt, rt.alloc(), "check A B 10 - A");
+    check_no_command(&rt, rt.alloc(), "settle");
 }
 
 /// A `check` line with so many entries.

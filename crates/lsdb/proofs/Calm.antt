@@ -1,15 +1,21 @@
 -- Seconds in which nothing but lifetimes changes by age.
-use Rattle.std.specs.Prelude.{◌≡◌, ℕ, zero, suc, ◌+◌, ◌-◌, ◌≤◌, ◌<◌, Bool, true, false, ◌||◌, nat_le, List, [], ◌∷◌, map, take, length, if◌then◌else◌}
+use Rattle.std.specs.Prelude.{◌≡◌, ℕ, zero, suc, ◌+◌, ◌-◌, ◌≤◌, ◌<◌, Bool, true, false, ◌||◌, nat_le, cond, List, [], ◌∷◌, map, take, length, Option, Some, None, IfSome, if◌then◌else◌}
 use Rattle.std.proofs.Common.{refl, sym, ap, subst, ◌∙◌, arith, get_or}
 use Rattle.std.proofs.lemmas.Bool.{lt-leb}
 use Rattle.std.specs.List.{AllByRecursion, list_any}
+use Rattle.std.specs.Ordering.{is_eq}
+use Rattle.std.specs.FinMap.{find, from_sorted}
+use Rattle.spb_types.specs.declared.address.LspId.{LspId}
 use Rattle.spb_types.specs.declared.ports.PortSet.{PortSet}
 use Rattle.lsdb.specs.declared.version.Version.{Version}
 use Rattle.lsdb.specs.declared.version.Version.TheVariants.{Absent, Live, Dead}
 use Rattle.lsdb.specs.declared.held.Held.{Held}
 use Rattle.lsdb.specs.Entry.{Entry, entry_of, has_flags, made, aged, IsClean, AreKept}
-use Rattle.lsdb.specs.Place.{with_entry}
-use Rattle.lsdb.specs.Calm.{LivesFor, AreCalm, lowered}
+use Rattle.lsdb.specs.Database.{id_cmp, keyed, version_in}
+use Rattle.lsdb.specs.Place.{IsSound, with_entry}
+use Rattle.lsdb.specs.Time.{is_live, lifetime_in}
+use Rattle.lsdb.specs.Calm.{LivesFor, AreCalm, HaveLeft, lowered, lowered_by}
+use Rattle.lsdb.proofs.Maps.{get_map, get_at, at_itself, mapped_sound}
 
 -- ---- lifetimes
 
@@ -40,9 +46,9 @@ calm_from n (h ∷ hs) none all =
     let parts = or_parts (has_flags (entry_of h)) (list_any (λ g. has_flags (entry_of g)) hs) none in
     (record { flags = parts.0; lives = all.0 }, calm_from n hs parts.1 all.1)
 
-pub calm_flags : (n : ℕ) (hs : List Held) → AreCalm n hs → list_any (λ h. has_flags (entry_of h)) (map (with_entry lowered) hs) ≡ false
+pub calm_flags : (n : ℕ) (hs : List Held) → AreCalm n hs → list_any (λ h. has_flags (entry_of h)) hs ≡ false
 calm_flags n [] all = refl
-calm_flags n (h ∷ hs) all = ap (λ b. b || list_any (λ g. has_flags (entry_of g)) (map (with_entry lowered) hs)) all.0.flags ∙ calm_flags n hs all.1
+calm_flags n (h ∷ hs) all = ap (λ b. b || list_any (λ g. has_flags (entry_of g)) hs) all.0.flags ∙ calm_flags n hs all.1
 
 -- ---- a second
 
@@ -65,13 +71,62 @@ calm_second up n (h ∷ hs) some clean all =
     ap (λ (g : Held). g ∷ map (with_entry lowered) hs) (same_of up n h clean.0 all.0.lives some)
     ∙ ap (λ (gs : List Held). with_entry (aged up) h ∷ gs) (calm_second up n hs some clean.1 all.1)
 
--- and one fewer is left after it
-pub calm_after : (n : ℕ) (hs : List Held) → 1 ≤ n → AreCalm n hs → AreCalm (n - 1) (map (with_entry lowered) hs)
-calm_after n [] some all = all
-calm_after n (h ∷ hs) some all = (
+-- ---- many seconds
+
+-- as many fewer are left after them
+pub calm_left : (n s : ℕ) (hs : List Held) → AreCalm (n + s) hs → AreCalm n (map (with_entry (lowered_by s)) hs)
+calm_left n s [] all = all
+calm_left n s (h ∷ hs) all = (
   record {
     flags = all.0.flags;
-    lives = λ (left : 1 ≤ h.lifetime - 1). let more : n < h.lifetime = all.0.lives (omega (arith, left)) in omega (arith, more, some);
+    lives = λ (left : 1 ≤ h.lifetime - s). let more : n + s < h.lifetime = all.0.lives (omega (arith, left)) in omega (arith, more);
   },
-  calm_after n hs some all.1,
+  calm_left n s hs all.1,
 )
+
+pub known_left : (s : ℕ) (known left : Option ℕ) (hs : List Held) → IfSome left (λ n. known ≡ Some (n + s)) → IfSome known (λ n. AreCalm n hs) → IfSome left (λ n. AreCalm n (map (with_entry (lowered_by s)) hs))
+known_left s known None hs more calm = tt
+known_left s known (Some n) hs more calm = calm_left n s hs (subst (λ (o : Option ℕ). IfSome o (λ m. AreCalm m hs)) more calm)
+
+abbrev AllClean : List Held → Type 0
+AllClean hs = AllByRecursion (λ h. IsClean (entry_of h)) hs
+
+live_left : (n : ℕ) (v : Version) (lifetime : ℕ) (body : List ℕ) → AreKept v lifetime body → (1 ≤ lifetime → n < lifetime) → is_live v ≡ true → n < lifetime
+live_left n Absent lifetime body kept lives live = absurd cc
+live_left n (Live seq sum) lifetime body kept lives live = lives kept.0
+live_left n (Dead seq) lifetime body kept lives live = absurd cc
+
+found_left : (n : ℕ) (hs : List Held) → AllClean hs → AreCalm n hs → (id : LspId) → is_live (version_in (find id_cmp id (map keyed hs))) ≡ true → n < lifetime_in (find id_cmp id (map keyed hs))
+found_left n [] clean all id live = absurd cc
+found_left n (h ∷ hs) clean all id live =
+    elim (is_eq (id_cmp id h.id))
+    as (λ b. is_live (version_in (cond b (Some (entry_of h)) (find id_cmp id (map keyed hs)))) ≡ true → n < lifetime_in (cond b (Some (entry_of h)) (find id_cmp id (map keyed hs)))) [
+      | true ↦ live_left n h.version h.lifetime h.body clean.0 all.0.lives
+      | false ↦ found_left n hs clean.1 all.1 id
+    ]
+    live
+
+-- of each live LSP more is left than the seconds for which all are calm
+pub calm_lives : (n : ℕ) (hs : List Held) → IsSound hs → AreCalm n hs → HaveLeft n (from_sorted (map keyed hs))
+calm_lives n hs sound all id = subst (λ (o : Option Entry). is_live (version_in o) ≡ true → n < lifetime_in o) (sym (get_map hs sound.sorted id)) (found_left n hs sound.clean all id)
+
+-- which no live LSP outlives
+kept_left : (s : ℕ) (v : Version) (lifetime : ℕ) (body : List ℕ) → AreKept v lifetime body → (is_live v ≡ true → s < lifetime) → AreKept v (lifetime - s) body
+kept_left s Absent lifetime body kept lives = let none : lifetime ≡ 0 = kept.0 in (omega (arith, none), kept.1)
+kept_left s (Live seq sum) lifetime body kept lives = let left : s < lifetime = lives refl in (omega (arith, left), kept.1)
+kept_left s (Dead seq) lifetime body kept lives = let none : lifetime ≡ 0 = kept.0 in (omega (arith, none), kept.1)
+
+clean_left : (s : ℕ) (hs : List Held) → AllClean hs → ((i : ℕ) (h : Held) → i < length hs → h ≡ get_or hs i h → is_live h.version ≡ true → s < h.lifetime) → AllClean (map (with_entry (lowered_by s)) hs)
+clean_left s [] clean left = clean
+clean_left s (h ∷ hs) clean left = (
+  kept_left s h.version h.lifetime h.body clean.0 (left 0 h (omega arith) refl),
+  clean_left s hs clean.1 (λ i g within here. left (suc i) g (omega (arith, within)) here),
+)
+
+-- what is held stays sound over seconds that are left of each live LSP
+pub left_sound : (s : ℕ) (hs : List Held) → IsSound hs → HaveLeft s (from_sorted (map keyed hs)) → IsSound (map (with_entry (lowered_by s)) hs)
+left_sound s hs sound left = mapped_sound (lowered_by s) hs (clean_left s hs sound.clean at) sound
+  where
+    at : (i : ℕ) (h : Held) → i < length hs → h ≡ get_or hs i h → is_live h.version ≡ true → s < h.lifetime
+    at i h within here =
+        subst (λ (o : Option Entry). is_live (version_in o) ≡ true → s < lifetime_in o) (get_at hs sound.sorted h.id i (at_itself hs i h within here) h ∙ ap (λ (g : Held). Some (entry_of g)) (sym here)) (left h.id)

@@ -84,7 +84,7 @@ not_tied_less o e = ap is_eq e
 pub entries_map : (hs : List Held) → AreSorted hs → entries (from_sorted {R = id_cmp} (map keyed hs)) ≡ map keyed hs
 entries_map hs s = entries-from_sorted id_cmp (map keyed hs) (T_from_true _ s)
 
-get_map : (hs : List Held) → AreSorted hs → (id : LspId) → get (from_sorted {R = id_cmp} (map keyed hs)) id ≡ find id_cmp id (map keyed hs)
+pub get_map : (hs : List Held) → AreSorted hs → (id : LspId) → get (from_sorted {R = id_cmp} (map keyed hs)) id ≡ find id_cmp id (map keyed hs)
 get_map hs s id = get-from_sorted id_cmp (map keyed hs) id (T_from_true _ s)
 
 length_keyed : (hs : List Held) → length (map keyed hs) ≡ length hs
@@ -211,12 +211,11 @@ length_mapped : (f : Entry → Entry) (hs : List Held) → length (map (with_ent
 length_mapped f [] = refl
 length_mapped f (h ∷ hs) = ap (λ n. suc n) (length_mapped f hs)
 
+pub mapped_sound : (f : Entry → Entry) (hs : List Held) → AllByRecursion (λ g. IsClean (entry_of g)) (map (with_entry f) hs) → IsSound hs → IsSound (map (with_entry f) hs)
+mapped_sound f hs clean sound = record { sorted = sorted_mapped f hs ∙ sound.sorted; few = rw (length_mapped f hs) sound.few; clean = clean }
+
 pub each_sound : (f : Entry → Entry) (hs : List Held) → ((e : Entry) → IsClean e → IsClean (f e)) → IsSound hs → IsSound (map (with_entry f) hs)
-each_sound f hs keeps sound = record {
-  sorted = sorted_mapped f hs ∙ sound.sorted;
-  few = rw (length_mapped f hs) sound.few;
-  clean = mapped_clean f hs keeps sound.clean;
-}
+each_sound f hs keeps sound = mapped_sound f hs (mapped_clean f hs keeps sound.clean) sound
 
 -- ---- in the shape of the code: the slice that was searched, the LSP there as it was and as it is, and the map
 
@@ -349,7 +348,7 @@ same_at [] i h d within here = absurd (omega arith)
 same_at (g ∷ hs) zero h d within here = ap (λ (x : Held). x.id) (sym here)
 same_at (g ∷ hs) (suc i) h d within here = same_at hs i h d (omega arith) here
 
-at_itself : (hs : List Held) (i : ℕ) (h : Held) → i < length hs → h ≡ get_or hs i h → IsAt hs h.id i
+pub at_itself : (hs : List Held) (i : ℕ) (h : Held) → i < length hs → h ≡ get_or hs i h → IsAt hs h.id i
 at_itself hs i h within here = record { within = within; same = λ d. same_at hs i h d within here }
 
 pub place_sound : (hs : List Held) (i : ℕ) → i < length hs → IsSound hs → (f : Entry → Entry) (h new : Held) → h ≡ get_or hs i h → new ≡ with_entry f h → (IsClean (entry_of h) → IsClean (f (entry_of h))) → IsSound (set hs i new)

@@ -1,5 +1,5 @@
 //! The database: LSPs in order of id, found by a binary search, with the changes that a bridge makes to them.
-ghost use Rattle.std.specs.Prelude.{◌≡◌, ◌≤◌, ◌↔◌, ℕ, Some, None, true, false, IfOk, IfErr, IfSome, OnOk, OnErr, IsErrOf, IsNone, nat_eq, slice_get, map, take, drop, length, [], ◌∷◌, ◌++◌, if◌then◌else◌};
+ghost use Rattle.std.specs.Prelude.{◌≡◌, ◌≤◌, ◌↔◌, ◌+◌, ℕ, Some, None, true, false, IfOk, IfErr, IfSome, OnOk, OnErr, IsErrOf, IsNone, nat_eq, slice_get, map, take, drop, length, [], ◌∷◌, ◌++◌, if◌then◌else◌};
 ghost use Rattle.std.specs.Option.{option_map, option_copied};
 ghost use Rattle.std.specs.FinMap as finite;
 ghost use Rattle.std.specs.List.{AllByRecursion, list_any};
@@ -8,7 +8,7 @@ ghost use Rattle.lsdb.specs.Entry.{entry_of, CanBeHeld, IsClean, cleaned, with_f
 ghost use Rattle.lsdb.specs.Database.{keyed, fits, version_at, changed, changed_at_place, version_at_place, version_if_held, StandsAt, each, any_flags, is_srm_at, is_ssn_at, flagged_from, flagged_places};
 ghost use Rattle.spb_types.specs.Ports.{has};
 ghost use Rattle.lsdb.specs.Place.{with_entry};
-ghost use Rattle.lsdb.specs.Calm.{LivesFor, AreCalm, lowered};
+ghost use Rattle.lsdb.specs.Calm.{LivesFor, AreCalm, HaveLeft, lowered_by};
 ghost use Rattle.spb_types.specs.declared.ports.PortSet.{PortSet};
 
 use crate::search::{place_near, place_of};
@@ -98,12 +98,22 @@ fn age_all(held: &mut Vec<Held>, up: PortSet) -> bool
     item::has_ports(flagged)
 }
 
-// Lets a second pass at every LSP, of which none dies.
-fn lower_all(held: &mut Vec<Held>)
-    ensures { held.new.items ≡ map (with_entry lowered) held.old.items }
+// Lets so many seconds pass at every LSP, of which none dies.
+fn lower_all(held: &mut Vec<Held>, seconds: u16)
+    ensures { held.new.items ≡ map (with_entry (lowered_by seconds)) held.old.items }
 {
     for h in held.iter_mut() {
-        item::lower(h);
+        item::lower(h, seconds);
+    }
+}
+
+// For how many more seconds it is calm when so many have passed, if it was known to be for all of these.
+fn calm_after(calm: Option<u16>, seconds: u16) -> Option<u16>
+    ensures { IfSome result (λ left. calm ≡ Some (left + seconds)) }
+{
+    match calm {
+        Some(known) if seconds <= known => Some(known - seconds),
+        _ => None,
     }
 }
 
@@ -487,9 +497,30 @@ impl Database {
         if seconds == 0 {
             return false;
         }
-        lower_all(&mut self.held);
+        lower_all(&mut self.held, 1);
         self.calm = Some(seconds - 1);
         true
+    }
+
+    /// For how many seconds nothing but lifetimes changes by age, with no flags, as far as that is known: 0 where it
+    /// isn't.
+    pub fn calm_seconds(&self) -> u16
+        ensures flags { 1 ≤ result → any_flags self.now ≡ false }
+        ensures left { 1 ≤ result → HaveLeft result self.now }
+    {
+        match self.calm {
+            Some(seconds) => seconds,
+            None => 0,
+        }
+    }
+
+    /// So many seconds pass, in which no live LSP dies: each lifetime falls by as many. Takes no memory.
+    pub fn pass_calm(&mut self, seconds: u16)
+        requires { HaveLeft seconds self.old }
+        ensures { self.new ≡ each (λ id e. lowered_by seconds e) self.old }
+    {
+        self.calm = calm_after(self.calm, seconds);
+        lower_all(&mut self.held, seconds);
     }
 
     /// The places at which flags stand, counted from 0 in order of id.

@@ -4,7 +4,7 @@ ghost use Rattle.spb_types.specs.Ports.{has};
 ghost use Rattle.lsdb.specs.Entry as entry;
 ghost use Rattle.lsdb.specs.Entry.{entry_of, CanBeHeld, IsClean, cleaned, raised, with_flags, purged, with_srm, with_ssn, with_flags_at, flags_cleared_at, aged, has_flags};
 ghost use Rattle.lsdb.specs.Place.{with_entry};
-ghost use Rattle.lsdb.specs.Calm.{LivesFor, lowered};
+ghost use Rattle.lsdb.specs.Calm.{LivesFor, lowered_by};
 
 use crate::{Held, Version};
 use spb_types::limits::MOST_PORTS;
@@ -133,11 +133,11 @@ pub fn age(held: &mut Held, up: PortSet)
     }
 }
 
-/// Lets a second pass in which the LSP doesn't die.
-pub fn lower(held: &mut Held)
-    ensures { held.new ≡ with_entry lowered held.old }
+/// Lets so many seconds pass in which the LSP doesn't die.
+pub fn lower(held: &mut Held, seconds: u16)
+    ensures { held.new ≡ with_entry (lowered_by seconds) held.old }
 {
-    held.lifetime = held.lifetime.saturating_sub(1);
+    held.lifetime = held.lifetime.saturating_sub(seconds);
 }
 
 /// The greatest number of seconds up to `left` for which the LSP doesn't die.

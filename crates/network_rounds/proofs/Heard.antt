@@ -20,12 +20,13 @@ use Rattle.spb_world.specs.Links.{far_end}
 use Rattle.spb_world.specs.World.{World, things_of}
 use Rattle.spb_world.proofs.ListLemmas.{length-things}
 use Rattle.network_model.specs.State.{State, links_of, lane_at, with_frames}
-use Rattle.network_model.specs.Events.{heard_over, delivered_front, delivered, ticked, ticked_from, delivered_times, lane_served, link_served, served_from, all_ticked, all_served, one_round}
+use Rattle.network_model.specs.Events.{heard_over, delivered_front, delivered, ticked, ticked_from, delivered_times, lane_served, link_served, served_from, all_ticked, one_round}
 use Rattle.network_model.proofs.ApartLanes.{stepped_each}
 use Rattle.network_model.proofs.FitsLemmas.{length-changed, alike_ticked_from}
 use Rattle.network_model.proofs.SentLanes.{changed_beside}
 use Rattle.network_model.proofs.SoundEvents.{stepped_world, stepped_views}
 use Rattle.network_model.proofs.SoundSteps.{lane_changed}
+use Rattle.network_model.specs.Sound.{IsSoundState}
 use Rattle.network_rounds.specs.Rounds.{coming, coming_over, inbox_from, inbox, HasNoCustomers, RoundsAreHeard}
 use Rattle.network_rounds.proofs.Silent.{silent_step}
 
@@ -187,6 +188,7 @@ record Serves (s t : State) (k : ℕ) (xs : ℕ → Inbox) : Type 0 where
   many : length t.lanes ≡ length s.lanes
   others : (j : ℕ) (dir : Dir) → j ≢ k → lane_of t.lanes j dir ≡ lane_of s.lanes j dir
   views : (i : ℕ) → slice_get t.views i ≡ option_map (heard_all (xs i)) (slice_get s.views i)
+  rest : t ≡ record s { views = t.views; lanes = t.lanes }
 
 lane_serves : (s : State) (k : ℕ) (dir : Dir) (l : DeclaredLink) → slice_get (links_of s) k ≡ Some l → CarryNone (lane_at s k dir)
     → (t : State) × (lane_served s k dir ≡ t) × Serves s t k (coming dir l (lane_at s k dir)) × (t.lanes ≡ changed_frames emptied s.lanes k dir)
@@ -202,6 +204,7 @@ lane_serves s k dir l there clean =
         many = length-changed (changed_lane dir emptied) s.lanes k;
         others = λ j d apart. lane_away (changed_lane dir emptied) s.lanes k j d apart;
         views = λ i. changed_got g s.views (far_end dir l).bridge i ∙ heard_if ((far_end dir l).bridge == i) (ported (far_end dir l).port fs) (slice_get s.views i);
+        rest = refl;
       },
       refl,
     )
@@ -230,6 +233,7 @@ link_serves s k l there clean =
             ∙ (heard_both (coming Ab l (lane_of s.lanes k Ab) i) (coming Ba l (lane_of t.lanes k Ba) i) (slice_get s.views i)
             ∙ (ap (λ (lane : List Frame). option_map (heard_all (coming Ab l (lane_of s.lanes k Ab) i ++ coming Ba l lane i)) (slice_get s.views i)) way
             ∙ ap (λ (o : Option DeclaredLink). option_map (heard_all (coming_over o s.lanes k i)) (slice_get s.views i)) (sym there))));
+        rest = two.2.rest ∙ ap (λ (x : State). record x { views = u.views; lanes = u.lanes }) one.2.rest;
       };
       empty = λ dir. emptied_both dir t u one.3 two.3;
       clean = subst HasNoCustomers (sym two.3) (clean_emptied t.lanes k Ba clean_t);
@@ -253,6 +257,7 @@ record ServesAll (s t : State) (n k : ℕ) : Type 0 where
   before : (j : ℕ) (dir : Dir) → j < k → lane_of t.lanes j dir ≡ lane_of s.lanes j dir
   empty : (j : ℕ) (dir : Dir) → k ≤ j → lane_of t.lanes j dir ≡ []
   views : (i : ℕ) → slice_get t.views i ≡ option_map (heard_all (inbox_from n k (links_of s) s.lanes i)) (slice_get s.views i)
+  rest : t ≡ record s { views = t.views; lanes = t.lanes }
 
 all_serve : (n k : ℕ) (s : State) → n + k ≡ length s.lanes → length (links_of s) ≡ length s.lanes → HasNoCustomers s.lanes → ServesAll s (served_from n k s) n k
 all_serve zero k s many fits clean = record {
@@ -260,11 +265,13 @@ all_serve zero k s many fits clean = record {
   before = λ j dir lt. refl;
   empty = λ j dir le. past s.lanes j dir (omega (arith, le, many));
   views = λ i. map_id (slice_get s.views i);
+  rest = refl;
 }
 all_serve (suc n) k s many fits clean =
     let here = got (links_of s) k (omega (arith, many, fits)) in
     let t : State = link_served s k in
     let one : ServesLink s t k = link_serves s k here.0 here.1 clean in
+    let u : State = served_from n (k + 1) t in
     let more : ServesAll t (served_from n (k + 1) t) n (k + 1) = all_serve n (k + 1) t (omega (arith, many, one.serves.many)) (ap (λ (w : World). length (things_of w.links)) one.serves.world ∙ (fits ∙ sym one.serves.many)) one.clean in
     record {
       world = more.world ∙ one.serves.world;
@@ -276,6 +283,7 @@ all_serve (suc n) k s many fits clean =
           ∙ ap (λ (xs : Inbox). option_map (heard_all (coming_over (slice_get (links_of s) k) s.lanes k i ++ xs)) (slice_get s.views i))
           (ap (λ (w : World). inbox_from n (k + 1) (things_of w.links) t.lanes i) one.serves.world
           ∙ inbox_same n (k + 1) (links_of s) s.lanes t.lanes i (λ j dir le. one.serves.others j dir (λ e. absurd (omega (arith, e, le)))))));
+      rest = more.rest ∙ ap (λ (x : State). record x { views = u.views; lanes = u.lanes }) one.serves.rest;
     }
   where
     from : (j : ℕ) (dir : Dir) → k ≤ j → (t u : State) → ServesLink s t k → ServesAll t u n (k + 1) → lane_of u.lanes j dir ≡ []
@@ -350,18 +358,27 @@ clean_ticks (suc n) i s clean =
 
 -- ---- a round
 
-pub rounds_are_heard : RoundsAreHeard
+served : (s : State) → IsSoundState s → HasNoCustomers s.lanes → ServesAll (all_ticked s) (one_round s) (length (all_ticked s).lanes) 0
 unfolding one_round
+served s sound clean =
+    let t : State = all_ticked s in
+    let many : length t.lanes ≡ length s.lanes = (alike_ticked_from (length s.views) 0 s).lanes in
+    let fits : length (links_of s) ≡ length s.lanes = length-things s.world.links ∙ sym sound.fits.lanes in
+    all_serve (length t.lanes) 0 t (omega arith) (ap (λ (w : World). length (things_of w.links)) (all_tick_world s) ∙ (fits ∙ sym many)) (clean_ticks (length s.views) 0 s clean)
+
+pub rounds_are_heard : RoundsAreHeard
 rounds_are_heard s sound clean =
     let t : State = all_ticked s in
     let world : t.world ≡ s.world = all_tick_world s in
-    let many : length t.lanes ≡ length s.lanes = (alike_ticked_from (length s.views) 0 s).lanes in
-    let fits : length (links_of s) ≡ length s.lanes = length-things s.world.links ∙ sym sound.fits.lanes in
-    let served : ServesAll t (all_served t) (length t.lanes) 0 = all_serve (length t.lanes) 0 t (omega arith) (ap (λ (w : World). length (things_of w.links)) world ∙ (fits ∙ sym many)) (clean_ticks (length s.views) 0 s clean) in
+    let all : ServesAll t (one_round s) (length t.lanes) 0 = served s sound clean in
     record {
-      world = served.world ∙ world;
-      lanes = λ k dir. served.empty k dir (omega arith);
-      views = λ i. served.views i ∙ (ap (λ (w : World). option_map (heard_all (inbox (things_of w.links) t.lanes i)) (slice_get t.views i)) world
+      world = all.world ∙ world;
+      lanes = λ k dir. all.empty k dir (omega arith);
+      views = λ i. all.views i ∙ (ap (λ (w : World). option_map (heard_all (inbox (things_of w.links) t.lanes i)) (slice_get t.views i)) world
           ∙ (ap (option_map (heard_all (inbox (links_of s) t.lanes i))) (all_tick s i)
           ∙ map_twice (step second) (heard_all (inbox (links_of s) t.lanes i)) (slice_get s.views i)));
     }
+
+-- after the ticks it changes bridges and lanes alone
+pub served_rest : (s : State) → IsSoundState s → HasNoCustomers s.lanes → one_round s ≡ record (all_ticked s) { views = (one_round s).views; lanes = (one_round s).lanes }
+served_rest s sound clean = (served s sound clean).rest

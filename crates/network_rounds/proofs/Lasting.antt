@@ -48,7 +48,8 @@ use Rattle.network_model.proofs.BridgeLaws.{sent_is_sound}
 use Rattle.network_model.proofs.CountedRounds.{Counted-all_ticked}
 use Rattle.network_model.proofs.Origins.{lsp_claims}
 use Rattle.network_rounds.specs.Rounds.{HasNoCustomers, IsRoundOf, AreRounds}
-use Rattle.network_rounds.specs.Steady.{IsReadyFor, inbox_of, HasLifeLeft, HaveLifeLeft, LifetimesLast}
+use Rattle.bridge_api.specs.Calm.{HasLifeLeft}
+use Rattle.network_rounds.specs.Steady.{IsReadyFor, inbox_of, HaveLifeLeft, LifetimesLast}
 use Rattle.network_rounds.proofs.Along.{round_sound, round_counted}
 use Rattle.network_rounds.proofs.Ends.{is_named}
 use Rattle.network_rounds.proofs.Passing.{sound_at, second_sound, ticked_view, ComesFrom, each_from, heard_round, heard_view, empty_plain}

@@ -24,3 +24,8 @@ pub mod Lasting
 pub mod Undue
 pub mod SteadyRounds
 pub mod SettlingWitness
+pub mod CalmGreeted
+pub mod CalmRest
+pub mod CalmRounds
+pub mod CalmQuiet
+pub mod CalmWitness

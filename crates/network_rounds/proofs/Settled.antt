@@ -66,7 +66,7 @@ module _ (s : State) (sound : IsSoundState s) (counted : IsCounted s) (few : s.a
   enough_given : enough_for s ≤ most_settling s
   enough_given = omega arith
 
-  reached : (k : ℕ) (t : State) → AreRounds k s t → k ≤ most_settling s → IsReached (length s.views - 1) (most_settling s) k s t
+  pub reached : (k : ℕ) (t : State) → AreRounds k s t → k ≤ most_settling s → IsReached (length s.views - 1) (most_settling s) k s t
   reached k t rounds within = record {
     ready = record {
       sound = sound;

@@ -232,7 +232,7 @@ module _ (v w : BridgeView) (here : IsFirst v) (there : IsFirst w) where
 
 -- ---- the commands
 
-is_ready_there : is_ready (most_settling (state_after declaring)) (state_after declaring) ≡ true
+pub is_ready_there : is_ready (most_settling (state_after declaring)) (state_after declaring) ≡ true
 unfolding next_state vid_refusal with_vid with_bridge with_link with_live next_box lane_out stepped switched_on with_vid_more declared linked named_link
 is_ready_there = ready (with_first_carrier (config 1) 10) (with_first_carrier (config 2) 10) (first 1) (first 2)
 
@@ -240,7 +240,7 @@ is_busy_there : is_quiet (state_after declaring) ≡ false
 unfolding next_state vid_refusal with_vid with_bridge with_link with_live next_box lane_out stepped switched_on with_vid_more declared linked named_link
 is_busy_there = busy (with_first_carrier (config 1) 10) (with_first_carrier (config 2) 10) (first 1) (first 2)
 
-is_live_there : is_live (links_of (state_after declaring)) 0 ≡ true
+pub is_live_there : is_live (links_of (state_after declaring)) 0 ≡ true
 unfolding next_state vid_refusal with_vid with_bridge with_link with_live next_box lane_out stepped switched_on with_vid_more declared linked named_link
 is_live_there = refl
 

@@ -15,7 +15,7 @@ outs_none : (o : Option (List ℕ)) → outs_at o [] ≡ []
 outs_none None = refl
 outs_none (Some name) = refl
 
-left_none : (s : State) (i : ℕ) → left_all s i [] ≡ s
+pub left_none : (s : State) (i : ℕ) → left_all s i [] ≡ s
 left_none s i = ap (λ (outs : List Out). record s { outs = outs }) (ap (λ (outs : List Out). s.outs ++ outs) (outs_none (slice_get (names_of s.world.bridges) i)) ∙ append-none s.outs)
 
 none_given : (f : BridgeView → List (ℕ × Frame)) (o : Option BridgeView) → ((v : BridgeView) → f v ≡ []) → option_map_or f o [] ≡ []

@@ -171,19 +171,19 @@ module _ (ids : List LspId) (few : length ids ≤ most_ids) where
 -- ---- a steady round
 
 -- a port at which a link that is up ends
-record AtLiveLink (links : List DeclaredLink) (i p : ℕ) : Type 0 where
-  lane : LaneId
-  out : lane_out links i p ≡ Some lane
-  live : is_live links lane.link ≡ true
+pub record AtLiveLink (links : List DeclaredLink) (i p : ℕ) : Type 0 where
+  pub lane : LaneId
+  pub out : lane_out links i p ≡ Some lane
+  pub live : is_live links lane.link ≡ true
 
-at_live_link : (links : List DeclaredLink) (i p : ℕ) → ends_live_link links i p ≡ true → AtLiveLink links i p
+pub at_live_link : (links : List DeclaredLink) (i p : ℕ) → ends_live_link links i p ≡ true → AtLiveLink links i p
 at_live_link links i p ends = by (lane_out links i p) refl ends
   where
     by : (o : Option LaneId) → lane_out links i p ≡ o → option_map_or (λ lane. is_live links lane.link) o false ≡ true → AtLiveLink links i p
     by None out is = absurd cc
     by (Some lane) out is = record { lane = lane; out = out; live = is }
 
-live_there : (links : List DeclaredLink) (k : ℕ) (l : DeclaredLink) → slice_get links k ≡ Some l → is_live links k ≡ l.live
+pub live_there : (links : List DeclaredLink) (k : ℕ) (l : DeclaredLink) → slice_get links k ≡ Some l → is_live links k ≡ l.live
 live_there links k l there = ap (λ (o : Option DeclaredLink). option_map_or (λ l. l.live) o false) there
 
 back_up : (s : State) (k : ℕ) (dir : Dir) (l : DeclaredLink) (v w : BridgeView) → AreUp s → slice_get (links_of s) k ≡ Some l → l.live ≡ true → slice_get s.views (near_end dir l).bridge ≡ Some v → slice_get s.views (far_end dir l).bridge ≡ Some w

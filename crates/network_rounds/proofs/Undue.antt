@@ -28,7 +28,7 @@ abbrev pub AllStayUp : Inbox → BridgeView → Type 0
 AllStayUp fs v = (p : ℕ) → IsPort v p → has_carrier_at v p ≡ true → (n : End) × StaysUp p n fs v
 
 -- a port with carrier is there
-carrier_port : (v : BridgeView) (p : ℕ) → has_carrier_at v p ≡ true → IsPort v p
+pub carrier_port : (v : BridgeView) (p : ℕ) → has_carrier_at v p ≡ true → IsPort v p
 unfolding has_carrier_at
 carrier_port v p carrier = by (port_at v p) refl carrier
   where

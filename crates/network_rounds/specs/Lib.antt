@@ -7,3 +7,5 @@ pub mod Flags
 pub mod Steady
 pub mod Agreement
 pub mod SettlingLaws
+pub mod Calm
+pub mod CalmLaws

@@ -2,18 +2,16 @@
 -- up, and then each round is a steady one, in which bridges only tell each other what they hold.
 use Rattle.std.specs.Prelude.{◌≡◌, ℕ, ◌+◌, ◌-◌, ◌*◌, ◌≤◌, ◌<◌, List, length, true, false, Some, slice_get}
 use Rattle.std.specs.List.{AllByRecursion}
-use Rattle.std.specs.FinMap.{get}
 use Rattle.spb_types.specs.declared.address.LspId.{LspId}
 use Rattle.spb_types.specs.declared.link.Dir.{Dir}
 use Rattle.spb_tlvs.specs.RoundTrip.{IsNamed}
-use Rattle.lsdb.specs.Database.{version_in, version_at}
-use Rattle.lsdb.specs.Time.{lifetime_in, is_live}
-use Rattle.flooding.specs.Own.{last_number, own_numbers}
+use Rattle.flooding.specs.Own.{last_number}
 use Rattle.adjacency.specs.declared.port.Adjacency.{Adjacency}
 use Rattle.adjacency.specs.declared.state.AdjState.TheVariants.{Up}
 use Rattle.adjacency.specs.Hearing.{End}
 use Rattle.bridge_api.specs.View.{BridgeView, adjacency_at, neighbour_at, is_up_at, is_csnp_due_at}
-use Rattle.bridge_api.specs.Own.{body_at, own_entry}
+use Rattle.bridge_api.specs.Own.{body_at}
+use Rattle.bridge_api.specs.Calm.{HasLifeLeft}
 use Rattle.bridge_api.specs.Ticking.{readied}
 use Rattle.bridge_api.specs.Step.{second, step, sent, frames_at}
 use Rattle.bridge_rounds.specs.FlagLaws.{HasNoCsnp}
@@ -75,12 +73,7 @@ NothingIsLost = (m k : ℕ) (s t : State) → IsReadyFor m k s → AreRounds k s
 
 -- ---- what is live lasts
 
--- of each live LSP more than so many seconds are left, and 300 more of an own one
-pub record HasLifeLeft (m : ℕ) (v : BridgeView) : Type 0 where
-  pub held : (id : LspId) → is_live (version_at v.database id) ≡ true → m < lifetime_in (get v.database id)
-  pub own : (number : ℕ) → number < own_numbers → is_live (version_in (own_entry v number)) ≡ true
-      → m + 300 < lifetime_in (own_entry v number)
-
+-- at each bridge more than so many seconds are left of each live LSP, and 300 more of an own one
 abbrev pub HaveLifeLeft : ℕ → State → Type 0
 HaveLifeLeft m s = (i : ℕ) (v : BridgeView) → slice_get s.views i ≡ Some v → HasLifeLeft m v
 

@@ -186,4 +186,13 @@ impl Bridge for PlainBridge {
     fn rest(&mut self) {
         self.control.rest();
     }
+
+    fn calm_seconds(&self) -> u16 {
+        self.control.calm_seconds()
+    }
+
+    fn pass_calm(&mut self, seconds: u16) -> Result<(), NoMemory> {
+        self.control.pass_calm(seconds);
+        Ok(())
+    }
 }

@@ -12,7 +12,7 @@ use Rattle.scenario.specs.declared.extra.Extra.TheVariants as extra
 use Rattle.scenario.specs.declared.extra.Change.{Change}
 use Rattle.scenario.specs.declared.extra.Change.TheVariants.{Down, Up, Metric}
 use Rattle.scenario.specs.declared.extra.ExtraKeyword.{ExtraKeyword}
-use Rattle.scenario.specs.declared.extra.ExtraKeyword.TheVariants.{WhatIf, Proof, Check}
+use Rattle.scenario.specs.declared.extra.ExtraKeyword.TheVariants.{WhatIf, Proof, Check, Settle}
 use Rattle.scenario.specs.declared.keyword.Keyword.{Keyword}
 use Rattle.scenario.specs.declared.keyword.Keyword.TheVariants.{Vid}
 use Rattle.scenario.specs.declared.line.TheConstants.{LINE_LIMIT}
@@ -80,16 +80,18 @@ apart-from b x is not = true≢false (sym (eq-eqb b x is) ∙ not)
 otherwise : (b : ℕ) (bytes : List ℕ) → may_begin_extra b ≡ false → BeginsExtra (b ∷ bytes) → ⊥
 unfolding front
 otherwise b bytes none h =
-    let three = neither ((is_blank b || (b == 119)) || (b == 112)) (b == 99) none in
+    let four = neither (((is_blank b || (b == 119)) || (b == 112)) || (b == 99)) (b == 115) none in
+    let three = neither ((is_blank b || (b == 119)) || (b == 112)) (b == 99) four.0 in
     let two = neither (is_blank b || (b == 119)) (b == 112) three.0 in
     let one = neither (is_blank b) (b == 119) two.0 in
-    at one.0 one.1 two.1 three.1 h.0 h.2.0 h.2.1 h.2.2 h.2.5
+    at one.0 one.1 two.1 three.1 four.1 h.0 h.2.0 h.2.1 h.2.2 h.2.5
   where
-    at : is_blank b ≡ false → (b == 119) ≡ false → (b == 112) ≡ false → (b == 99) ≡ false → (k : ExtraKeyword) (before after : List ℕ) → AreBlank before → b ∷ bytes ≡ before ++ (extra_text k ++ after) → ⊥
-    at blank w p c k (x ∷ xs) after all is = true≢false (sym (ap is_blank (ap front is) ∙ (and_parts (is_blank x) (list_all is_blank xs) all).0) ∙ blank)
-    at blank w p c WhatIf [] after all is = apart-from b 119 (ap front is) w
-    at blank w p c Proof [] after all is = apart-from b 112 (ap front is) p
-    at blank w p c Check [] after all is = apart-from b 99 (ap front is) c
+    at : is_blank b ≡ false → (b == 119) ≡ false → (b == 112) ≡ false → (b == 99) ≡ false → (b == 115) ≡ false → (k : ExtraKeyword) (before after : List ℕ) → AreBlank before → b ∷ bytes ≡ before ++ (extra_text k ++ after) → ⊥
+    at blank w p c s k (x ∷ xs) after all is = true≢false (sym (ap is_blank (ap front is) ∙ (and_parts (is_blank x) (list_all is_blank xs) all).0) ∙ blank)
+    at blank w p c s WhatIf [] after all is = apart-from b 119 (ap front is) w
+    at blank w p c s Proof [] after all is = apart-from b 112 (ap front is) p
+    at blank w p c s Check [] after all is = apart-from b 99 (ap front is) c
+    at blank w p c s Settle [] after all is = apart-from b 115 (ap front is) s
 
 held : Option ℕ → ℕ
 held None = 0
@@ -202,6 +204,7 @@ unfolding extra_form all_entries
 forms-sound WhatIf = λ change. changes-sound change
 forms-sound Proof = λ from to vid. tt
 forms-sound Check = λ from to vid first. entries-few (MOST_BRIDGES - 1) from to vid (first ∷ []) (omega arith) (omega arith)
+forms-sound Settle = tt
 
 pub sound-extra : (line : List ℕ) (given : Extra) → SpellsExtra line given → IsSoundExtra given
 sound-extra line given h = spelled-so IsSoundExtra (extra_form h.keyword) given h.words (forms-sound h.keyword) h.form
@@ -227,6 +230,7 @@ extra-comment : (k : ExtraKeyword) (after : List ℕ) → is_comment (extra_text
 extra-comment WhatIf after = refl
 extra-comment Proof after = refl
 extra-comment Check after = refl
+extra-comment Settle after = refl
 
 pub ignored-none : (line : List ℕ) → IsBlankOrComment line → extra_of line ≡ Ok None
 ignored-none line h = begins-none line other

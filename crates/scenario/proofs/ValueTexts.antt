@@ -15,7 +15,7 @@ use Rattle.spb_types.specs.declared.link.Dir.TheVariants.{Ab, Ba}
 use Rattle.spb_types.specs.declared.service.Mode.TheVariants.{Both, Send, Recv}
 use Rattle.spb_types.specs.declared.entry_word.EntryWord.{EntryWord}
 use Rattle.spb_types.specs.declared.entry_word.EntryWord.TheVariants.{Start, Before, Unreached}
-use Rattle.scenario.specs.declared.extra.ExtraKeyword.TheVariants.{WhatIf, Proof, Check}
+use Rattle.scenario.specs.declared.extra.ExtraKeyword.TheVariants.{WhatIf, Proof, Check, Settle}
 use Rattle.scenario.specs.declared.extra.Change.TheVariants.{Down, Up, Metric}
 use Rattle.scenario.specs.Keywords.{extra_text, change_text}
 use Rattle.scenario.specs.Words.{is_blank}
@@ -172,6 +172,7 @@ value-word a_mode Recv word h = subst IsWord (sym h) refl
 value-word an_extra WhatIf word h = subst IsWord (sym h) refl
 value-word an_extra Proof word h = subst IsWord (sym h) refl
 value-word an_extra Check word h = subst IsWord (sym h) refl
+value-word an_extra Settle word h = subst IsWord (sym h) refl
 value-word a_change Down word h = subst IsWord (sym h) refl
 value-word a_change Up word h = subst IsWord (sym h) refl
 value-word a_change Metric word h = subst IsWord (sym h) refl

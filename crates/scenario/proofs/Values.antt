@@ -17,7 +17,7 @@ use Rattle.spb_types.specs.declared.link.Dir.TheVariants.{Ab, Ba}
 use Rattle.spb_types.specs.declared.entry_word.EntryWord.{EntryWord}
 use Rattle.spb_types.specs.declared.entry_word.EntryWord.TheVariants.{Start, Before, Unreached}
 use Rattle.spb_types.specs.declared.service.Mode.TheVariants.{Both, Send, Recv}
-use Rattle.scenario.specs.declared.extra.ExtraKeyword.TheVariants.{WhatIf, Proof, Check}
+use Rattle.scenario.specs.declared.extra.ExtraKeyword.TheVariants.{WhatIf, Proof, Check, Settle}
 use Rattle.scenario.specs.declared.extra.Change.TheVariants.{Down, Up, Metric}
 use Rattle.scenario.specs.WordForms.{name, number, system, source, frame, dir, side, mode, entry, decimal, decoded, hexadecimal}
 use Rattle.scenario.specs.Keywords.{extra_text, extra_keyword, change_text, change_of}
@@ -67,6 +67,21 @@ spells-three text a b c v word h =
             | inl second ↦ (bytes_eq-Decides word (text b)).0 second.0 ∙ ap text second.1
             | inr third ↦ (bytes_eq-Decides word (text c)).0 third.0 ∙ ap text third.1
           ]
+    ]
+
+-- which of four: the first, or what the others give
+chosen-or : {X : Type 0} (p : Bool) (o : Option X) (x v : X) → (if p then Some x else o) ≡ Some v → ((p ≡ true) × (x ≡ v)) ⊎ (o ≡ Some v)
+chosen-or true o x v h = inl (refl, cc)
+chosen-or false o x v h = inr h
+
+-- the text, of four, that the word is
+spells-four : {X : Type 0} (text : X → List ℕ) (a b c d v : X) (word : List ℕ)
+    → (if bytes_eq word (text a) then Some a else (if bytes_eq word (text b) then Some b else (if bytes_eq word (text c) then Some c else (if bytes_eq word (text d) then Some d else None)))) ≡ Some v
+    → word ≡ text v
+spells-four text a b c d v word h =
+    elim (chosen-or (bytes_eq word (text a)) (if bytes_eq word (text b) then Some b else (if bytes_eq word (text c) then Some c else (if bytes_eq word (text d) then Some d else None))) a v h) [
+      | inl first ↦ (bytes_eq-Decides word (text a)).0 first.0 ∙ ap text first.1
+      | inr others ↦ spells-three text b c d v word others
     ]
 
 -- which entry a choice gave
@@ -135,7 +150,7 @@ spells-meaning a_frame v word h =
 spells-meaning a_dir v word h = spells-dir v word h
 spells-meaning a_side v word h = spells-side v word h
 spells-meaning a_mode v word h = spells-three mode_text Both Send Recv v word h
-spells-meaning an_extra v word h = spells-three extra_text WhatIf Proof Check v word h
+spells-meaning an_extra v word h = spells-four extra_text WhatIf Proof Check Settle v word h
 spells-meaning a_change v word h = spells-three change_text Down Up Metric v word h
 spells-meaning an_entry v word h = spells-entry v word h
 
@@ -162,6 +177,7 @@ meaning-spelled a_mode Recv word h = rw h refl
 meaning-spelled an_extra WhatIf word h = rw h refl
 meaning-spelled an_extra Proof word h = rw h refl
 meaning-spelled an_extra Check word h = rw h refl
+meaning-spelled an_extra Settle word h = rw h refl
 meaning-spelled a_change Down word h = rw h refl
 meaning-spelled a_change Up word h = rw h refl
 meaning-spelled a_change Metric word h = rw h refl

@@ -1,4 +1,4 @@
--- The lines of extras, questions that change nothing: `whatif`, `proof` and `check`.
+-- The lines of extras, which are no commands: `whatif`, `proof` and `check`, questions that change nothing; and `settle`.
 use Rattle.std.specs.Prelude.{◌≡◌, ℕ, zero, suc, ◌+◌, ◌-◌, ◌≤◌, ◌<◌, List, [], ◌∷◌, ◌++◌, length, nat_lt, Bool, true, false, IsTrue, if◌then◌else◌, Option, Some, None, Result, Ok, Err, ⊤, ◌||◌, ◌==◌}
 use Rattle.std.specs.Option.{is_some}
 use Rattle.spb_types.specs.declared.entry_word.EntryWord.{EntryWord}
@@ -10,7 +10,7 @@ use Rattle.scenario.specs.declared.error.LineError.TheVariants.{Words, NoMemory}
 use Rattle.scenario.specs.declared.extra.Extra.{Extra}
 use Rattle.scenario.specs.declared.extra.Extra.TheVariants as extra
 use Rattle.scenario.specs.declared.extra.ExtraKeyword.{ExtraKeyword}
-use Rattle.scenario.specs.declared.extra.ExtraKeyword.TheVariants.{WhatIf, Proof, Check}
+use Rattle.scenario.specs.declared.extra.ExtraKeyword.TheVariants.{WhatIf, Proof, Check, Settle}
 use Rattle.scenario.specs.declared.extra.Change.{Change}
 use Rattle.scenario.specs.declared.extra.Change.TheVariants.{Down, Up, Metric}
 use Rattle.scenario.specs.declared.line.TheConstants.{LINE_LIMIT}
@@ -59,6 +59,7 @@ extra_form Check = do
   to ← a_name
   vid ← a_number
   all_entries (extra.Check from to vid)
+extra_form Settle = gives extra.Settle
 
 -- the form of a whole line: a keyword, and what its form takes
 abbrev pub extra_line : Form Extra
@@ -73,7 +74,7 @@ begins_extra (word ∷ words) = is_some (extra_keyword word.bytes)
 
 -- whether a line that begins with a byte may begin so: with a blank, or with the first letter of such a keyword
 abbrev pub may_begin_extra : ℕ → Bool
-may_begin_extra b = ((is_blank b || (b == 119)) || (b == 112)) || (b == 99)
+may_begin_extra b = (((is_blank b || (b == 119)) || (b == 112)) || (b == 99)) || (b == 115)
 
 -- The extra that a line gives, or None where its first word is no keyword of an extra, however long it is, or else the
 -- column, counted from 1, of the first byte of the first word that doesn't fit, or where words are missing, the column
@@ -96,6 +97,7 @@ abbrev pub IsSoundExtra : Extra → Type 0
 IsSoundExtra (extra.WhatIf command) = IsTrue (is_change command)
 IsSoundExtra (extra.Proof from to vid) = ⊤
 IsSoundExtra (extra.Check from to vid entries) = (1 ≤ length entries) × (length entries ≤ MOST_BRIDGES)
+IsSoundExtra extra.Settle = ⊤
 
 -- ---- What is answered
 

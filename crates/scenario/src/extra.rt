@@ -1,4 +1,4 @@
-//! Questions that change nothing, as values, and the words that begin their lines.
+//! Lines that are no commands: questions that change nothing, and settling; as values, and the words that begin them.
 ghost use Rattle.std.specs.Prelude.{◌≡◌};
 ghost use Rattle.scenario.specs.Keywords.{extra_keyword, change_of};
 
@@ -6,7 +6,8 @@ use crate::command::Command;
 use crate::keyword::Keyword;
 use spb_types::{EntryWord, Name, Seq};
 
-/// A question that changes nothing: one variant for each form of its line.
+/// What a line asks that is no command: one variant for each form of its line. All but `Settle` are questions that
+/// change nothing.
 ///
 /// Each number is one of at most 10 decimal digits; whether it is in range is not judged here.
 #[derive(Debug, Drop)]
@@ -28,6 +29,8 @@ pub enum Extra {
         vid: u64,
         entries: Seq<EntryWord>,
     },
+    /// `settle`: rounds until the network is quiet.
+    Settle,
 }
 
 /// The first word of the line of an extra: one for each form.
@@ -36,6 +39,7 @@ pub enum ExtraKeyword {
     WhatIf,
     Proof,
     Check,
+    Settle,
 }
 
 impl ExtraKeyword {
@@ -52,6 +56,9 @@ impl ExtraKeyword {
         }
         if word == b"check".as_slice() {
             return Some(ExtraKeyword::Check);
+        }
+        if word == b"settle".as_slice() {
+            return Some(ExtraKeyword::Settle);
         }
         None
     }

@@ -10,7 +10,7 @@ use crate::error::LineError;
 use crate::extra::{Change, Extra, ExtraKeyword};
 use crate::forms;
 use crate::line::LINE_LIMIT;
-use crate::words::Words;
+use crate::words::{Words, is_blank};
 use std::alloc::Global;
 
 /// The words behind `whatif metric`.
@@ -66,6 +66,15 @@ fn check(alloc: Global, words: &mut Words<'_>) -> Result<Extra, LineError>
     })
 }
 
+/// The words behind `settle`: none.
+#[tactic(auto, unfolding(crate::specs::Extras::extra_form))]
+fn settle(words: &mut Words<'_>) -> Result<Extra, LineError>
+    ensures { GivesExtra result (read (extra_form ExtraKeyword.Settle) words.old) }
+{
+    words.finish()?;
+    Ok(Extra::Settle)
+}
+
 /// The extra of the keyword's form, of the words behind it.
 #[tactic(auto, unfolding(crate::specs::Extras::extra_form))]
 fn extra(alloc: Global, keyword: ExtraKeyword, words: &mut Words<'_>) -> Result<Extra, LineError>
@@ -78,15 +87,15 @@ fn extra(alloc: Global, keyword: ExtraKeyword, words: &mut Words<'_>) -> Result<
         }
         ExtraKeyword::Proof => proof(words),
         ExtraKeyword::Check => check(alloc, words),
+        ExtraKeyword::Settle => settle(words),
     }
 }
 
 /// Whether a line that begins with a byte may begin with the keyword of an extra: with its first letter, or a blank.
-#[tactic(auto, unfolding(crate::specs::Words::is_blank))]
 fn may_begin(byte: u8) -> bool
     ensures { result ≡ may_begin_extra byte }
 {
-    byte == b' ' || byte == b'\t' || byte == b'w' || byte == b'p' || byte == b'c'
+    is_blank(byte) || byte == b'w' || byte == b'p' || byte == b'c' || byte == b's'
 }
 
 /// Whether a line begins with a byte with which no extra begins.
@@ -123,8 +132,8 @@ fn read_extra(alloc: Global, line: &[u8]) -> Result<Option<Extra>, LineError>
 
 /// The extra that a line asks. The line comes without its end (LF, or CR LF).
 ///
-/// None exactly where the first word of the line, however long that is, is none of `whatif`, `proof` and `check`, so
-/// also where it is blank or a comment: `parse_line` then says what the line is. Of a line that begins so, `Words`
+/// None exactly where the first word of the line, however long that is, is none of `whatif`, `proof`, `check`
+/// and `settle`, so also where it is blank or a comment: `parse_line` then says what the line is. Of a line that begins so, `Words`
 /// exactly where it isn't in the grammar of extras or has more than 8,192 bytes, and `NoMemory` only where it is a
 /// `check` line and no memory was found for its entries.
 pub fn parse_extra(alloc: Global, line: &[u8]) -> Result<Option<Extra>, LineError>

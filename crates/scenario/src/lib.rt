@@ -9,9 +9,9 @@
 //! first word is compared with the keywords, of which there are 24. A line of more than 8,192 bytes is refused before
 //! it is looked at. Only the bytes of a frame take memory.
 //!
-//! `parse_extra` reads the line of an extra, a question that changes nothing: `whatif`, `proof` or `check`. It leaves
-//! every line that begins otherwise to `parse_line`, and reads the others by the same rules, in time in proportion to
-//! the line. Only the entries of a `check` take memory.
+//! `parse_extra` reads the line of an extra, which is no command: `whatif`, `proof` and `check`, questions that change
+//! nothing, and `settle`. It leaves every line that begins otherwise to `parse_line`, and reads the others by the same
+//! rules, in time in proportion to the line. Only the entries of a `check` take memory.
 //!
 //! `print_command` is the way back: the line of a command, with single spaces, numbers without leading zeros and
 //! lower-case digits. What is printed for a command that some line spells, is read as that command, if memory is found

@@ -28,7 +28,7 @@ impl<'a> Model for Words<'a> {
 
 /// Whether a byte stands between words: a space or a tab.
 #[tactic(auto, unfolding(crate::specs::Words::is_blank))]
-fn is_blank(byte: u8) -> bool
+pub(crate) fn is_blank(byte: u8) -> bool
     ensures { result ≡ is_blank_byte byte }
 {
     byte == b' ' || byte == b'\t'

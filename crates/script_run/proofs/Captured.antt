@@ -9,6 +9,7 @@ use Rattle.scenario.specs.declared.cutter.Stop.{Stop}
 use Rattle.scenario.specs.declared.cutter.Stop.TheVariants as stop
 use Rattle.scenario.specs.Cutting.{start, lines_of}
 use Rattle.scenario.specs.declared.extra.Extra.{Extra}
+use Rattle.scenario.specs.declared.extra.Extra.TheVariants.{Settle}
 use Rattle.scenario.specs.Extras.{extra_of}
 use Rattle.scenario.specs.Grammar.{line_of}
 use Rattle.extra_answers.specs.Refusing.{extra_refusal}
@@ -18,13 +19,14 @@ use Rattle.network_model.specs.Captured.{seen_of, captured}
 use Rattle.network_model.specs.Play.{next_state, played_all}
 use Rattle.network_model.specs.Refusing.{refusal_of}
 use Rattle.network_model.specs.State.{State}
+use Rattle.network_rounds.specs.Settling.{settle_refusal}
 use Rattle.script_run.specs.declared.refusal.Refusal.{Refusal}
 use Rattle.script_run.specs.declared.status.Status.{Status}
 use Rattle.script_run.specs.declared.voice.Voice.TheVariants.{Packets}
 use Rattle.script_run.specs.Capturing.{capture_text}
 use Rattle.script_run.specs.Output.{AppendsFront}
 use Rattle.script_run.specs.Pieces.{Completes, WritesWhole, WritesSoon, whole_part}
-use Rattle.script_run.specs.Play.{Judged, judged, judged_by, judged_as, judged_extra, judged_line, packet_of, packets_of}
+use Rattle.script_run.specs.Play.{Judged, judged, judged_by, judged_as, judged_extra, judged_settle, judged_line, packet_of, packets_of}
 use Rattle.script_run.specs.Text.{Played, joined, concluded, play, played, lines_played, commands_joined, commands_in, said_in}
 use Rattle.script_run.proofs.Completing.{if_some}
 use Rattle.script_run.proofs.Putting.{Front-longer}
@@ -58,8 +60,13 @@ tells_extra : (s : State) (number : ℕ) (x : Extra) (o : Option Reason) → Tel
 tells_extra s number x (Some reason) = record { packets = refl; state = refl }
 tells_extra s number x None = record { packets = refl; state = refl }
 
+tells_settle : (s : State) (number : ℕ) (o : Option Reason) → Tells s (judged_settle s number o)
+tells_settle s number (Some reason) = record { packets = refl; state = refl }
+tells_settle s number None = record { packets = refl; state = refl }
+
 tells_line : (s : State) (number : ℕ) (line : List ℕ) (r : Result (Option Extra) ℕ) → Tells s (judged_line s number line r)
 tells_line s number line (Err column) = record { packets = refl; state = refl }
+tells_line s number line (Ok (Some Settle)) = tells_settle s number (settle_refusal s)
 tells_line s number line (Ok (Some x)) = tells_extra s number x (extra_refusal s.world x)
 tells_line s number line (Ok None) = tells_as s number (line_of line)
 

@@ -7,6 +7,7 @@ use Rattle.scenario.specs.declared.command.Command.TheVariants as command
 use Rattle.scenario.specs.declared.cutter.Stop.{Stop}
 use Rattle.scenario.specs.declared.cutter.Stop.TheVariants as stop
 use Rattle.scenario.specs.declared.extra.Extra.{Extra}
+use Rattle.scenario.specs.declared.extra.Extra.TheVariants.{Settle}
 use Rattle.scenario.specs.Extras.{extra_of}
 use Rattle.scenario.specs.Grammar.{line_of}
 use Rattle.extra_answers.specs.Refusing.{extra_refusal}
@@ -23,14 +24,17 @@ use Rattle.network_model.specs.Refusing.{refusal_of}
 use Rattle.network_model.specs.Sound.{opening}
 use Rattle.network_model.specs.SoundLaws.{AreAccepted, Scene, state_after}
 use Rattle.network_model.specs.State.{State}
+use Rattle.network_rounds.specs.Settling.{rounds_made, most_settling, settle_refusal}
 use Rattle.network_model.proofs.ApartLaws.{services_stay_apart}
 use Rattle.network_model.proofs.OnceLaws.{networks_deliver_once}
 use Rattle.script_run.specs.declared.refusal.Refusal.{Refusal}
 use Rattle.script_run.specs.Commands.{LinesPlayCommands, AllLeaveEntered, AllDeliverOnce}
-use Rattle.script_run.specs.Play.{Judged, judged, judged_by, judged_as, judged_extra, judged_line}
+use Rattle.script_run.specs.Play.{Judged, judged, judged_by, judged_as, judged_extra, judged_settle, judged_line}
 use Rattle.script_run.specs.Replying.{IsNew}
 use Rattle.script_run.specs.Text.{Played, joined, concluded, play, lines_played, commands_joined, commands_in}
 use Rattle.script_run.proofs.Octets.{HasOctets, line_octets}
+use Rattle.script_run.proofs.SingleRounds.{rounds_octets, settling_accepted}
+use Rattle.script_run.proofs.Counting.{commands_few}
 use Rattle.script_run.proofs.Taking.{lines_few}
 
 -- ---- one line
@@ -57,8 +61,13 @@ leads_extra : (s : State) (number : ℕ) (x : Extra) (o : Option Reason) → Lea
 leads_extra s number x (Some reason) = leads_nothing s
 leads_extra s number x None = leads_nothing s
 
+leads_settle : (s : State) (number : ℕ) (o : Option Reason) → settle_refusal s ≡ o → Leads s (judged_settle s number o).commands (judged_settle s number o).state
+leads_settle s number (Some reason) is = leads_nothing s
+leads_settle s number None is = record { octets = rounds_octets (rounds_made (most_settling s) s); accepted = settling_accepted s is; state = refl }
+
 leads_line : (s : State) (number : ℕ) (line : List ℕ) (r : Result (Option Extra) ℕ) → Leads s (judged_line s number line r).commands (judged_line s number line r).state
 leads_line s number line (Err column) = leads_nothing s
+leads_line s number line (Ok (Some Settle)) = leads_settle s number (settle_refusal s) refl
 leads_line s number line (Ok (Some x)) = leads_extra s number x (extra_refusal s.world x)
 leads_line s number line (Ok None) = leads_as s number (line_of line) (line_octets line)
 
@@ -160,41 +169,6 @@ all_deliver_once s cs new bytes accepted few before onward later name b p f spli
     let once : LeavesOnce (state_after scene) = networks_deliver_once scene short (subst (λ (t : State). IsQuiet (played_all t before)) new quiet) in
     subst (λ (t : State). LeavesOnce (played_all t before)) (sym new) once name b p f onward named passes
 
--- each line plays one command at most
-commands_of_one : (s : State) (number : ℕ) (r : Result (Option Command) ℕ) → length (judged_as s number r).commands ≤ 1
-commands_of_one s number (Err column) = omega arith
-commands_of_one s number (Ok None) = omega arith
-commands_of_one s number (Ok (Some c)) = by_refusal s number c (refusal_of s c)
-  where
-    by_refusal : (s : State) (number : ℕ) (c : Command) (o : Option Reason) → length (judged_by s number c o).commands ≤ 1
-    by_refusal s number c None = omega arith
-    by_refusal s number c (Some reason) = omega arith
-
-commands_of_extra : (s : State) (number : ℕ) (x : Extra) (o : Option Reason) → length (judged_extra s number x o).commands ≤ 1
-commands_of_extra s number x None = omega arith
-commands_of_extra s number x (Some reason) = omega arith
-
-commands_of_line : (s : State) (number : ℕ) (line : List ℕ) (r : Result (Option Extra) ℕ) → length (judged_line s number line r).commands ≤ 1
-commands_of_line s number line (Err column) = omega arith
-commands_of_line s number line (Ok (Some x)) = commands_of_extra s number x (extra_refusal s.world x)
-commands_of_line s number line (Ok None) = commands_of_one s number (line_of line)
-
-line_commands : (s : State) (number : ℕ) (line : List ℕ) → length (judged s number line).commands ≤ 1
-unfolding judged
-line_commands s number line = commands_of_line s number line (extra_of line)
-
-joined_few : (here later : List Command) (o : Option Refusal) (n : ℕ) → length here ≤ 1 → length later ≤ n → length (commands_joined here o later) ≤ n + 1
-joined_few here later None n one more = omega (arith, one, more, length-append here later)
-joined_few here later (Some why) n one more = omega (arith, one)
-
-pub commands_few : (s : State) (number : ℕ) (ls : List (List ℕ)) → length (commands_in s number ls) ≤ length ls
-commands_few s number [] = omega arith
-commands_few s number (line ∷ ls) =
-    let next : State = (judged s number line).state in
-    let more = joined_few (judged s number line).commands (commands_in next (number + 1) ls) (judged s number line).refused (length ls)
-    (line_commands s number line) (commands_few next (number + 1) ls) in
-    omega (arith, more)
-
 module _ {B : Type 0} (shown : B → Shown) (n : NetworkOf B) (new : IsNew shown n) where
   lines_apart : (ls : List (List ℕ)) → AllLeaveEntered (state_of shown n) (commands_in (state_of shown n) 1 ls)
   lines_apart ls =
@@ -211,7 +185,7 @@ module _ {B : Type 0} (shown : B → Shown) (n : NetworkOf B) (new : IsNew shown
       let s : State = state_of shown n in
       let all = lines_lead s 1 (lines_played script) None in
       all_deliver_once s (commands_in s 1 (lines_played script)) new.opening all.octets all.accepted
-      (omega (arith, commands_few s 1 (lines_played script), lines_few script))
+      (commands_few s (lines_played script) (ap (λ (t : State). t.rounds) new.opening) (lines_few script))
 
   pub script_once : (left : Option (List ℕ)) → IfSome left (λ script. AllDeliverOnce (state_of shown n) (commands_in (state_of shown n) 1 (lines_played script)))
   script_once None = tt

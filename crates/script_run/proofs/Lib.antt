@@ -2,8 +2,9 @@ pub mod Writing
 pub mod Taking
 pub mod Going
 pub mod Reading
-pub mod Counting
 pub mod Octets
+pub mod SingleRounds
+pub mod Counting
 pub mod Completing
 pub mod Convergence
 pub mod Commands
@@ -12,3 +13,4 @@ pub mod Putting
 pub mod Captured
 pub mod Foretold
 pub mod Questions
+mod Asked

@@ -1,7 +1,7 @@
 -- What comes true of the questions of a script that change nothing and aren't refused.
 use Rattle.std.proofs.Common.{◌≡◌, ◌+◌, ℕ, List, [], ◌∷◌, refl, sym, ap, ◌∙◌, true≢false, ⊎_elim, Option, Some, None, IfSome, Result, Ok, Err, arith}
 use Rattle.scenario.specs.declared.extra.Extra.{Extra}
-use Rattle.scenario.specs.declared.extra.Extra.TheVariants.{WhatIf, Proof, Check}
+use Rattle.scenario.specs.declared.extra.Extra.TheVariants.{WhatIf, Proof, Check, Settle}
 use Rattle.scenario.specs.Extras.{extra_of}
 use Rattle.scenario.specs.Grammar.{line_of}
 use Rattle.bridge_api.specs.Shown.{Shown}
@@ -15,8 +15,9 @@ use Rattle.network_model.proofs.Convergence.{counted_quiet_is_converged}
 use Rattle.spb_network.specs.declared.network.NetworkOf.{NetworkOf}
 use Rattle.spb_network.specs.Applying.{IsSoundNetwork}
 use Rattle.spb_network.specs.Network.{state_of}
+use Rattle.network_rounds.specs.Settling.{settle_refusal}
 use Rattle.script_run.specs.declared.refusal.Refusal.{Refusal}
-use Rattle.script_run.specs.Play.{judged, judged_extra, judged_as, judged_line}
+use Rattle.script_run.specs.Play.{judged, judged_extra, judged_as, judged_settle, judged_line}
 use Rattle.script_run.specs.Questions.{IfAsks, Foretells, AllForetell, IsProven, AllAreProven}
 use Rattle.script_run.specs.Replying.{IsNew}
 use Rattle.script_run.specs.States.{IsTrusted}
@@ -82,6 +83,7 @@ module _ (s : State) (number : ℕ) (P : Extra → Type 0) (each : (question : E
   asked_by : (line : List ℕ) (r : Result (Option Extra) ℕ) → IfAccepted (judged_line s number line r).refused (IfAsks r P)
   asked_by line (Err column) = tt
   asked_by line (Ok None) = holds_anyway (judged_as s number (line_of line)).refused tt
+  asked_by line (Ok (Some Settle)) = holds_anyway (judged_settle s number (settle_refusal s)).refused (each Settle refl)
   asked_by line (Ok (Some question)) = asked question (extra_refusal s.world question) refl
 
   asked_in : (line : List ℕ) → IfAccepted (judged s number line).refused (IfAsks (extra_of line) P)

@@ -5,6 +5,7 @@ use Rattle.std.specs.Prelude.{if◌then◌else◌}
 use Rattle.std.proofs.KnownBytes.{Appends-nil, Appends-trans, Consumes-trans, Consumes-kept, Consumes-whole}
 use Rattle.scenario.specs.declared.cutter.Stop.{Stop}
 use Rattle.scenario.specs.declared.cutter.Stop.TheVariants as stop
+use Rattle.spb_types.specs.declared.limits.TheConstants.{MOST_ROUNDS}
 use Rattle.scenario.specs.Cutting.{Cuts, start, most_lines, most_bytes, longest_line, is_lf, lines_of}
 use Rattle.network_model.specs.State.{State}
 use Rattle.script_run.specs.declared.refusal.Refusal.{Refusal}
@@ -64,9 +65,9 @@ completes v holds s t status script written a b does grown =
     let all : Does v (played s script) written status t = subst (λ (p : Played). Does v p written status t) (sym (is_played s script)) does in
     record { fate = sym all.ends; text = subst (Appends (holds a) (holds b)) (sym all.writes) grown; state = sym all.leaves }
 
-few_accepted : (v : Voice) (s t : State) (status : Status) (script written : List ℕ) → Does v (to_come s 1 start script) written status t → t.accepted ≤ s.accepted + most_lines
+few_accepted : (v : Voice) (s t : State) (status : Status) (script written : List ℕ) → Does v (to_come s 1 start script) written status t → t.accepted ≤ s.accepted + most_lines + MOST_ROUNDS
 few_accepted v s t status script written does =
-    let all : (to_come s 1 start script).state.accepted ≤ s.accepted + length (lines_of start script).0 = play_few s 1 (lines_of start script).0 (lines_of start script).1 in
+    let all : (to_come s 1 start script).state.accepted ≤ s.accepted + length (lines_of start script).0 + MOST_ROUNDS = play_few s 1 (lines_of start script).0 (lines_of start script).1 in
     let same : (to_come s 1 start script).state.accepted ≡ t.accepted = ap (λ (u : State). u.accepted) does.leaves in
     omega (arith, all, same, lines_few script)
 
@@ -182,7 +183,7 @@ module _ (v : Voice) {S K : Type 0}
         (completes v holds s u status reading.read (reading.goes.written ++ fin.written) a f (end_does status u f fin)
         (Appends-trans (holds a) (holds b) (holds f) reading.goes.written fin.written reading.goes.grown fin.grown))
 
-    pub end_few : (status : Status) (u : State) (f : K) → Finishes v holds status t u n d b f → u.accepted ≤ s.accepted + most_lines
+    pub end_few : (status : Status) (u : State) (f : K) → Finishes v holds status t u n d b f → u.accepted ≤ s.accepted + most_lines + MOST_ROUNDS
     end_few status u f fin = few_accepted v s u status reading.read (reading.goes.written ++ fin.written) (end_does status u f fin)
 
     pub end_own : (status : Status) (u : State) (f : K) → Finishes v holds status t u n d b f → IsTrue (is_written status)
@@ -218,7 +219,7 @@ module _ (v : Voice) {S K : Type 0}
       piece_ends = some_whole (left old) l (reading.read ++ p) (λ script. Completes holds (said_in v) script status s u a f) more_consumed (λ more.
           completes v holds s u status ((reading.read ++ p) ++ more) all.written a f (all.does more) all.grown)
 
-      pub piece_few : u.accepted ≤ s.accepted + most_lines
+      pub piece_few : u.accepted ≤ s.accepted + most_lines + MOST_ROUNDS
       piece_few = few_accepted v s u status ((reading.read ++ p) ++ []) all.written (all.does [])
 
       pub piece_own : IsTrue (is_written status)

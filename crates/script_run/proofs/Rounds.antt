@@ -16,7 +16,8 @@ use Rattle.network_rounds.specs.SettlingLaws.{CommandsSettle}
 use Rattle.script_run.specs.Replying.{IsNew}
 use Rattle.script_run.specs.Rounds.{AllRoundsSettle}
 use Rattle.script_run.specs.Text.{lines_played, commands_in}
-use Rattle.script_run.proofs.Commands.{lines_play_commands, commands_few}
+use Rattle.script_run.proofs.Commands.{lines_play_commands}
+use Rattle.script_run.proofs.Counting.{commands_few}
 use Rattle.script_run.proofs.Taking.{lines_few}
 
 all_settle : CommandsSettle → (s : State) (cs : List Command) → IsSoundState s → (s.accepted ≤ most_commands → IsCounted s) → AreAccepted s cs
@@ -36,7 +37,7 @@ module _ {B : Type 0} (shown : B → Shown) (n : NetworkOf B) (new : IsNew shown
       let sound : IsSoundNetwork shown n = ⊎_elim (λ h. absurd (true≢false (sym h ∙ new.alive.halted))) (λ m. m) new.alive.ready in
       let none : s.accepted ≡ 0 = ap (λ (t : State). t.accepted) new.opening in
       all_settle settle s (commands_in s 1 ls) sound.state sound.counted (lines_play_commands s 1 ls).accepted
-      (omega (arith, none, commands_few s 1 ls, lines_few script))
+      (omega (arith, none, commands_few s ls (ap (λ (t : State). t.rounds) new.opening) (lines_few script)))
 
   pub script_settles : (left : Option (List ℕ)) → IfSome left (λ script. AllRoundsSettle (state_of shown n) (commands_in (state_of shown n) 1 (lines_played script)))
   script_settles None = tt

@@ -1,13 +1,18 @@
 -- How answers are written.
-use Rattle.std.specs.Prelude.{ℕ, List, [], Some, None, codes}
+use Rattle.std.specs.Prelude.{ℕ, List, [], ◌++◌, Option, Some, None, codes}
 use Rattle.std.specs.List.{flat_map}
 use Rattle.report.specs.Adjacencies.{adj_text}
 use Rattle.report.specs.Database.{db_text}
-use Rattle.report.specs.Lines.{drops_text, out_text, path_text, state_text}
+use Rattle.report.specs.Lines.{drops_text, out_text, path_text, settle_text, state_text}
 use Rattle.report.specs.Tables.{tables_text}
 use Rattle.network_model.specs.declared.answer.Answer.{Answer}
 use Rattle.network_model.specs.declared.answer.Answer.TheVariants.{Silent, Outs, State, Show, Wiring, Db, Adj, Path, Drops}
 use Rattle.network_model.specs.declared.answer.Out.{Out}
+use Rattle.network_model.specs.State as networks
+use Rattle.network_rounds.specs.Settling.{most_settling, rounds_made, settling, outs_of}
+use Rattle.settle_laws.specs.declared.answers.Ready.{Ready}
+use Rattle.settle_laws.specs.declared.answers.Ready.TheVariants.{Yes, Frame, Lifetime, OwnLifetime, Ids}
+use Rattle.settle_laws.specs.Settling.{left_of}
 
 -- a customer frame that leaves
 abbrev pub text_of_out : Out → List ℕ
@@ -24,3 +29,17 @@ text_of_answer (Db bridge rows) = db_text bridge rows
 text_of_answer (Adj bridge ports) = adj_text bridge ports
 text_of_answer (Path from to vid cost names) = path_text from to vid.value cost names
 text_of_answer (Drops bridge counts) = drops_text bridge counts
+
+-- what the premise of settling that fails is called; nothing where there is quiet
+abbrev pub why_of : Ready → Option (List ℕ)
+why_of Yes = None
+why_of Frame = Some (codes "frame")
+why_of Lifetime = Some (codes "lifetime")
+why_of OwnLifetime = Some (codes "own")
+why_of Ids = Some (codes "ids")
+
+-- the lines of settling: the customer frames that leave in its rounds, and then how many rounds these were, and whether
+-- there is quiet or why not
+abbrev pub text_of_settling : networks.State → List ℕ
+text_of_settling s = flat_map text_of_out (outs_of s (settling s))
+    ++ settle_text (rounds_made (most_settling s) s) (why_of (left_of s))

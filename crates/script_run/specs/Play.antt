@@ -4,18 +4,20 @@ use Rattle.frame_capture.specs.Capture.{packet_bytes}
 use Rattle.report.specs.Lines.{error_text}
 use Rattle.scenario.specs.declared.command.Command.{Command}
 use Rattle.scenario.specs.declared.extra.Extra.{Extra}
+use Rattle.scenario.specs.declared.extra.Extra.TheVariants.{Settle}
 use Rattle.scenario.specs.Extras.{extra_of}
 use Rattle.scenario.specs.Grammar.{line_of}
 use Rattle.extra_answers.specs.Answers.{extra_text}
 use Rattle.extra_answers.specs.Refusing.{extra_refusal}
 use Rattle.spb_world.specs.declared.reason.Reason.{Reason}
 use Rattle.network_model.specs.declared.delivered.Delivered.{Delivered}
-use Rattle.network_model.specs.Captured.{seen_of}
+use Rattle.network_model.specs.Captured.{seen_of, captured}
 use Rattle.network_model.specs.Play.{next_state, answer_of}
 use Rattle.spb_world.specs.Reason.{reason_number, name_of}
 use Rattle.network_model.specs.Refusing.{refusal_of}
 use Rattle.network_model.specs.State.{State}
-use Rattle.script_run.specs.Answer.{text_of_answer}
+use Rattle.network_rounds.specs.Settling.{settling, settled, settle_refusal}
+use Rattle.script_run.specs.Answer.{text_of_answer, text_of_settling}
 use Rattle.script_run.specs.declared.voice.Voice.{Voice}
 use Rattle.script_run.specs.declared.voice.Voice.TheVariants.{Answers, Packets}
 use Rattle.script_run.specs.declared.refusal.Refusal.{Refusal}
@@ -89,16 +91,37 @@ judged_extra s number extra None = record {
   state = s;
 }
 
+-- what is written of settling that isn't refused: its answer, or the packets of what its rounds deliver
+abbrev pub said_of_settling : Voice → State → List ℕ
+said_of_settling Answers s = text_of_settling s
+said_of_settling Packets s = packets_of (captured s (settling s))
+
+-- settling, by the reason for which it is refused: it plays single rounds, each as a command, and leaves the state
+-- after them
+abbrev pub judged_settle : State → ℕ → Option Reason → Judged
+judged_settle s number (Some reason) = refused_for s number reason
+judged_settle s number None = record {
+  says = λ v. said_of_settling v s;
+  refused = None;
+  commands = settling s;
+  state = settled s;
+}
+
 -- a line, by what it was read as among commands
 abbrev pub judged_as : State → ℕ → Result (Option Command) ℕ → Judged
 judged_as s number (Err column) = misspelled s number column
 judged_as s number (Ok None) = record { says = λ v. []; refused = None; commands = []; state = s }
 judged_as s number (Ok (Some command)) = judged_by s number command (refusal_of s command)
 
--- a line, by what it was read as among the questions that change nothing; where it is none, it is read as a command
+-- what asks for something and is no command: settling, or a question that changes nothing
+abbrev pub judged_asked : State → ℕ → Extra → Judged
+judged_asked s number Settle = judged_settle s number (settle_refusal s)
+judged_asked s number extra = judged_extra s number extra (extra_refusal s.world extra)
+
+-- a line, by what it was read as among these; where it is none of them, it is read as a command
 abbrev pub judged_line : State → ℕ → List ℕ → Result (Option Extra) ℕ → Judged
 judged_line s number line (Err column) = misspelled s number column
-judged_line s number line (Ok (Some extra)) = judged_extra s number extra (extra_refusal s.world extra)
+judged_line s number line (Ok (Some extra)) = judged_asked s number extra
 judged_line s number line (Ok None) = judged_as s number (line_of line)
 
 -- the line of this number, counted from 1, without its end

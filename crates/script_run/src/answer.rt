@@ -9,7 +9,7 @@ use spb_types::NoMemory;
 use std::alloc::Global;
 
 /// The lines of customer frames that leave, in order.
-fn outs_text(alloc: Global, frames: &[Out]) -> Result<Vec<u8>, NoMemory>
+pub(crate) fn outs_text(alloc: Global, frames: &[Out]) -> Result<Vec<u8>, NoMemory>
     ensures { IfOk result (λ text. text.items ≡ flat_map text_of_out frames.now) }
 {
     let mut text = Vec::new(alloc);

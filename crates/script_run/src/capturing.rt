@@ -3,6 +3,7 @@
 ghost use Rattle.std.specs.Prelude.{◌≡◌, ◌≢◌, ◌≤◌, ◌+◌, ◌⊎◌, Err, Ok, IfOk, IfSome, IsErrOf, IsTrue, OnOk, OnErr};
 ghost use Rattle.std.specs.Io.KnownBytes.{Appends, IsAtEnd};
 ghost use Rattle.frame_capture.specs.Capture.{header_bytes};
+ghost use Rattle.spb_types.specs.declared.limits.TheConstants.{MOST_ROUNDS};
 ghost use Rattle.scenario.specs.Cutting.{most_lines};
 ghost use Rattle.spb_network.specs.Applying.{IsReady};
 ghost use Rattle.spb_network.specs.Network.{state_of};
@@ -61,7 +62,7 @@ fn capture_pieces<B: Bridge, S: Source, K: Sink>(
     ensures reads { ReadsLittle (S.left source.old) (S.left source.new)
         (λ n. (why : Refusal) × (result ≡ Ok (Status.Refused n why))) }
     ensures few { OnOk result ((state_of B.shown network.new).accepted
-        ≤ (state_of B.shown network.old).accepted + most_lines) }
+        ≤ (state_of B.shown network.old).accepted + most_lines + MOST_ROUNDS) }
     ensures alive { OnOk result (IsAlive B.shown network.new) }
     ensures ready { IsReady B.shown network.new }
     ensures read_fault { result ≡ Err Break.Read → Rose (S.faults source.old) (S.faults source.new) }

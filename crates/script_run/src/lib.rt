@@ -22,5 +22,6 @@ mod play;
 mod refusal;
 mod reply;
 mod runner;
+mod settling;
 mod status;
 mod voice;

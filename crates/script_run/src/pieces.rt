@@ -8,6 +8,7 @@ ghost use Rattle.script_run.specs.Output.{AppendsFront};
 ghost use Rattle.script_run.specs.declared.pieces.Break.TheVariants.{Read as ReadBreak};
 ghost use Rattle.script_run.specs.Break.{break_of};
 ghost use Rattle.script_run.specs.Pieces.{Finishes, Completes, WritesWhole, WritesSoon, ReadsLittle, most_piece, GoesOn, Ends, Breaks, StandsAt, to_come, Accepts, Stops, shown_lines};
+ghost use Rattle.spb_types.specs.declared.limits.TheConstants.{MOST_ROUNDS};
 ghost use Rattle.scenario.specs.Cutting.{longest_line, most_bytes, most_lines, start};
 ghost use Rattle.script_run.specs.Play.{judged, misspelled_text, if_answers};
 ghost use Rattle.script_run.specs.declared.refusal.Refusal.{Refusal};
@@ -312,7 +313,7 @@ pub(crate) fn play_script<B: Bridge, S: Source, K: Sink>(
     ensures reads { ReadsLittle (S.left source.old) (S.left source.new)
         (λ n. (why : Refusal) × (result ≡ Ok (Status.Refused n why))) }
     ensures few { OnOk result ((state_of B.shown network.new).accepted
-        ≤ (state_of B.shown network.old).accepted + most_lines) }
+        ≤ (state_of B.shown network.old).accepted + most_lines + MOST_ROUNDS) }
     ensures alive { OnOk result (IsAlive B.shown network.new) }
     ensures ready { IsReady B.shown network.new }
     ensures read_fault { result ≡ Err Break.Read → Rose (S.faults source.old) (S.faults source.new) }

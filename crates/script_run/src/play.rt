@@ -14,6 +14,7 @@ ghost use Rattle.script_run.specs.declared.refusal.Refusal.TheVariants as refusa
 use crate::Refusal;
 use crate::answer::answer_text;
 use crate::reply::Reply;
+use crate::settling::{play_settle, watch_settle};
 use bridge_api::Bridge;
 use extra_answers::{answer, refusal};
 use report::error_text;
@@ -34,7 +35,7 @@ pub(crate) fn misspelled(alloc: Global, number: u32, column: usize) -> Result<Re
 }
 
 /// The reply to a command that is refused.
-fn refused(alloc: Global, number: u32, reason: Reason) -> Result<Reply, NoMemory>
+pub(crate) fn refused(alloc: Global, number: u32, reason: Reason) -> Result<Reply, NoMemory>
     ensures { IfOk result (λ reply. (reply.text.items ≡ texts.error_text number (reasons.reason_number reason) (reasons.name_of reason) None)
         × (reply.refused ≡ Some (refusal.Command reason))) }
 {
@@ -94,25 +95,62 @@ fn play_plain<B: Bridge>(
     }
 }
 
+/// Makes ready what the answer to a question reads of the wiring as it is. Nothing of the network changes.
+fn prepare<B: Bridge>(network: &mut NetworkOf<B>, extra: &Extra) -> Result<(), NoMemory>
+    ensures { network.new ≡ network.old }
+{
+    match extra {
+        Extra::Proof { .. } | Extra::Check { .. } => network.keep_fabric(),
+        Extra::WhatIf(_) | Extra::Settle => Ok(()),
+    }
+}
+
 /// Judges and answers a question that changes nothing.
-fn answer_extra<B: Bridge>(
+fn answer_question<B: Bridge>(
     alloc: Global,
-    network: &NetworkOf<B>,
+    network: &mut NetworkOf<B>,
     number: u32,
     extra: &Extra,
 ) -> Result<Reply, NoMemory>
-    requires { IsAlive B.shown network.now }
-    ensures { IfOk result (λ reply. Replies
-        (play.judged_extra (state_of B.shown network.now) number extra.now
-        (extra_refusal (state_of B.shown network.now).world extra.now))
-        reply (state_of B.shown network.now)) }
+    requires { IsAlive B.shown network.old }
+    ensures ok { IfOk result (λ reply. Replies
+        (play.judged_extra (state_of B.shown network.old) number extra.now
+        (extra_refusal (state_of B.shown network.old).world extra.now))
+        reply (state_of B.shown network.new)) }
+    ensures alive { OnOk result (IsAlive B.shown network.new) }
+    ensures ready { IsReady B.shown network.new }
 {
     match refusal(network.world(), extra) {
         Some(reason) => refused(alloc, number, reason),
-        None => Ok(Reply {
-            text: answer(alloc, network.world(), extra)?,
-            refused: None,
-        }),
+        None => {
+            prepare(network, extra)?;
+            Ok(Reply {
+                text: answer(alloc, network.world(), extra)?,
+                refused: None,
+            })
+        }
+    }
+}
+
+/// Judges and plays what asks for something and is no command.
+fn play_extra<B: Bridge>(
+    alloc: Global,
+    network: &mut NetworkOf<B>,
+    number: u32,
+    extra: &Extra,
+) -> Result<Reply, NoMemory>
+    requires { IsAlive B.shown network.old }
+    ensures ok { IfOk result (λ reply. Replies
+        (play.judged_asked (state_of B.shown network.old) number extra.now)
+        reply (state_of B.shown network.new)) }
+    ensures alive { OnOk result (IsAlive B.shown network.new) }
+    ensures ready { IsReady B.shown network.new }
+{
+    match extra {
+        Extra::Settle => play_settle(alloc, network, number),
+        Extra::WhatIf(_) | Extra::Proof { .. } | Extra::Check { .. } => {
+            answer_question(alloc, network, number, extra)
+        }
     }
 }
 
@@ -133,7 +171,7 @@ pub(crate) fn play_line<B: Bridge>(
     ensures ready { IsReady B.shown network.new }
 {
     match parse_extra(alloc, line) {
-        Ok(Some(extra)) => answer_extra(alloc, network, number, &extra),
+        Ok(Some(extra)) => play_extra(alloc, network, number, &extra),
         Ok(None) => play_plain(alloc, network, number, line),
         Err(LineError::Words(at)) => misspelled(alloc, number, at),
         Err(LineError::NoMemory) => Err(NoMemory),
@@ -189,7 +227,7 @@ fn watch_plain<B: Bridge>(
 }
 
 /// Judges a question that changes nothing. Nothing is delivered by it.
-fn watch_extra<B: Bridge>(network: &NetworkOf<B>, extra: &Extra) -> Option<Refusal>
+fn watch_question<B: Bridge>(network: &NetworkOf<B>, extra: &Extra) -> Option<Refusal>
     ensures { (number : _) → Watched
         (play.judged_extra (state_of B.shown network.now) number extra.now
         (extra_refusal (state_of B.shown network.now).world extra.now))
@@ -198,6 +236,30 @@ fn watch_extra<B: Bridge>(network: &NetworkOf<B>, extra: &Extra) -> Option<Refus
     match refusal(network.world(), extra) {
         Some(reason) => Some(Refusal::Command(reason)),
         None => None,
+    }
+}
+
+/// Judges and plays what asks for something and is no command, and notes what it delivers, behind nothing.
+fn watch_extra<B: Bridge>(
+    alloc: Global,
+    network: &mut NetworkOf<B>,
+    number: u32,
+    extra: &Extra,
+    seen: &mut Vec<Delivered>,
+) -> Result<Option<Refusal>, NoMemory>
+    requires alive { IsAlive B.shown network.old }
+    requires none { seen.old.items ≡ [] }
+    ensures ok { IfOk result (λ refused. Watched
+        (play.judged_asked (state_of B.shown network.old) number extra.now)
+        refused seen.new.items (state_of B.shown network.new)) }
+    ensures alive { OnOk result (IsAlive B.shown network.new) }
+    ensures ready { IsReady B.shown network.new }
+{
+    match extra {
+        Extra::Settle => watch_settle(alloc, network, number, seen),
+        Extra::WhatIf(_) | Extra::Proof { .. } | Extra::Check { .. } => {
+            Ok(watch_question(network, extra))
+        }
     }
 }
 
@@ -219,7 +281,7 @@ pub(crate) fn watch_line<B: Bridge>(
     ensures ready { IsReady B.shown network.new }
 {
     match parse_extra(alloc, line) {
-        Ok(Some(extra)) => Ok(watch_extra(network, &extra)),
+        Ok(Some(extra)) => watch_extra(alloc, network, number, &extra, seen),
         Ok(None) => watch_plain(alloc, network, number, line, seen),
         Err(LineError::Words(column)) => Ok(Some(Refusal::Words(column))),
         Err(LineError::NoMemory) => Err(NoMemory),

@@ -18,6 +18,7 @@ pub mod Chosen
 pub mod Made
 pub mod Put
 pub mod Folded
+pub mod FoldedSame
 pub mod Joined
 pub mod Whole
 pub mod Uncut

@@ -8,3 +8,4 @@ pub mod LastNumbers
 pub mod QuietWalks
 pub mod QuietNumbers
 pub mod Keeping
+pub mod CalmLemmas

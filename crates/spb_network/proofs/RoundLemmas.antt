@@ -4,7 +4,7 @@ use Rattle.spb_types.specs.declared.link.Dir.{Dir}
 use Rattle.link_model.specs.declared.lanes.LaneId.{LaneId}
 use Rattle.network_model.specs.State.{State, lane_at}
 use Rattle.link_model.specs.Lanes.{first_full_from}
-use Rattle.network_model.specs.Events.{ticked, ticked_from, all_ticked, delivered, delivered_times, link_served, served_from, all_served, one_round, rounds, delivered_first, delivered_over, drained}
+use Rattle.network_model.specs.Events.{ticked, ticked_from, all_ticked, delivered, delivered_times, link_served, served_from, all_served, delivered_first, delivered_over, drained}
 
 suc-less : (e i : ℕ) → i < e → e - i ≡ suc (e - (i + 1))
 suc-less e i h = omega arith
@@ -29,12 +29,6 @@ served-init s n e = ap (λ m. served_from m 0 s) (none-less n (length s.lanes) e
 
 pub served-step : (s : State) (e k : ℕ) → k < e → served_from (e - k) k s ≡ served_from (e - (k + 1)) (k + 1) (link_served s k)
 served-step s e k h = ap (λ m. served_from m k s) (suc-less e k h)
-
-pub rounds-init : (s : State) (n : ℕ) → rounds (n - 0) s ≡ rounds n s
-rounds-init s n = ap (λ m. rounds m s) (none-less n n refl)
-
-pub rounds-step : (s : State) (e i : ℕ) → i < e → rounds (e - i) s ≡ rounds (e - (i + 1)) (one_round s)
-rounds-step s e i h = ap (λ m. rounds m s) (suc-less e i h)
 
 pub drained-init : (s : State) (n : ℕ) → drained (n - 0) s ≡ drained n s
 drained-init s n = ap (λ m. drained m s) (none-less n n refl)

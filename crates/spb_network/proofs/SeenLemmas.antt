@@ -11,9 +11,9 @@ use Rattle.link_model.specs.declared.lanes.LaneId.{LaneId}
 use Rattle.link_model.specs.Lanes.{first_full_from}
 use Rattle.network_model.specs.declared.delivered.Delivered.{Delivered}
 use Rattle.network_model.specs.State.{State}
-use Rattle.network_model.specs.Events.{delivered, link_served, one_round, delivered_first, delivered_over}
+use Rattle.network_model.specs.Events.{delivered, link_served, delivered_first, delivered_over}
 use Rattle.network_model.specs.Questions.{is_question}
-use Rattle.network_model.specs.Captured.{seen_at, seen_times, seen_link, seen_from, seen_round, seen_rounds, seen_over_lane, seen_first, seen_drained, seen_of}
+use Rattle.network_model.specs.Captured.{seen_at, seen_times, seen_link, seen_from, seen_over_lane, seen_first, seen_drained, seen_of}
 use Rattle.spb_world.proofs.BoxLemmas.{append-none}
 use Rattle.spb_network.specs.Watching.{with_one, noted}
 
@@ -67,9 +67,6 @@ seen_times-step s k dir e i h = ap (λ m. seen_times m k dir s) (suc-less e i h)
 
 pub seen_from-step : (s : State) (e k : ℕ) → k < e → seen_from (e - k) k s ≡ seen_link s k ++ seen_from (e - (k + 1)) (k + 1) (link_served s k)
 seen_from-step s e k h = ap (λ m. seen_from m k s) (suc-less e k h)
-
-pub seen_rounds-step : (s : State) (e i : ℕ) → i < e → seen_rounds (e - i) s ≡ seen_round s ++ seen_rounds (e - (i + 1)) (one_round s)
-seen_rounds-step s e i h = ap (λ m. seen_rounds m s) (suc-less e i h)
 
 seen_drained-step : (s : State) (e i : ℕ) → i < e → seen_drained (e - i) s ≡ seen_first s ++ seen_drained (e - (i + 1)) (delivered_first s)
 seen_drained-step s e i h = ap (λ m. seen_drained m s) (suc-less e i h)

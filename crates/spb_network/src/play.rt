@@ -259,6 +259,7 @@ impl<B: Bridge> NetworkOf<B> {
     #[tactic(auto, using(network_model::proofs::StateRefusals::round_refusal_none), unfolding(network_model::specs::Play::with_rounds))]
     fn play_round_command(&mut self, n: u64, seen: &mut Seen) -> Result<(), NoMemory>
         requires order { IsInOrder B.shown self.old }
+        requires sound { IsSoundNetwork B.shown self.old }
         requires accepted { refuse.round_refusal (state_of B.shown self.old) n ≡ None }
         ensures state { OnOk result (state_of B.shown self.new ≡ play.with_rounds n (state_of B.shown self.old)) }
         ensures made { OnOk result (AreConfigured B.shown self.new.boxes.items) }
@@ -366,6 +367,14 @@ impl<B: Bridge> NetworkOf<B> {
             None => Ok(()),
             Some(place) => self.world.prepare_tables(self.alloc, place),
         }
+    }
+
+    /// Makes ready what questions about the wiring read, which is kept until what is declared changes. Nothing of the
+    /// network changes.
+    pub fn keep_fabric(&mut self) -> Result<(), NoMemory>
+        ensures { self.new ≡ self.old }
+    {
+        self.world.keep_fabric(self.alloc)
     }
 
     /// Keeps which conditions of quiet hold, if a command asks for them.

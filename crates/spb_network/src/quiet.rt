@@ -116,7 +116,7 @@ impl<B: Bridge> NetworkOf<B> {
     }
 
     /// Whether every lane is empty.
-    fn are_lanes_empty(&self) -> bool
+    pub(crate) fn are_lanes_empty(&self) -> bool
         ensures { result ≡ holds_q2 (state_of B.shown self.now) }
     {
         self.lanes.are_empty()

@@ -1,8 +1,9 @@
 //! Many events: rounds, and deliveries until all lanes are empty.
-ghost use Rattle.std.specs.Prelude.{◌≡◌, OnOk};
+ghost use Rattle.std.specs.Prelude.{◌≡◌, ◌≤◌, OnOk, IfOk};
 ghost use Rattle.link_model.specs.Lanes.{first_full_from};
 ghost use Rattle.network_model.specs.Captured as capture;
 ghost use Rattle.network_model.specs.Events as event;
+ghost use Rattle.network_model.specs.Sound.{IsSoundState};
 ghost use Rattle.spb_network.specs.Network.{state_of, IsInOrder};
 ghost use Rattle.spb_network.specs.Watching.{noted};
 
@@ -10,6 +11,7 @@ use crate::NetworkOf;
 use crate::seen::Seen;
 use bridge_api::Bridge;
 use link_model::LaneId;
+use network_rounds::calm_rounds_pass;
 use scenario::Dir;
 use spb_types::NoMemory;
 
@@ -71,19 +73,46 @@ impl<B: Bridge> NetworkOf<B> {
         Ok(())
     }
 
-    /// So many rounds. In each every bridge ticks, and then every link is served.
+    /// So many rounds. In each every bridge ticks, and then every link is served. Those that pass in calm aren't played
+    /// one by one.
     pub(crate) fn play_rounds(&mut self, n: u32, seen: &mut Seen) -> Result<(), NoMemory>
-        requires { IsInOrder B.shown self.old }
+        requires order { IsInOrder B.shown self.old }
+        requires sound { IsSoundState (state_of B.shown self.old) }
         ensures state { OnOk result (state_of B.shown self.new
             ≡ event.rounds n (state_of B.shown self.old)) }
         ensures order { OnOk result (IsInOrder B.shown self.new) }
         ensures seen { OnOk result (seen.new
             ≡ noted seen.old (capture.seen_rounds n (state_of B.shown self.old))) }
     {
-        for _ in 0..n {
-            self.play_round(seen)?;
+        let mut left = n;
+        while left > 0 {
+            left -= self.play_some(left, seen)?;
         }
         Ok(())
+    }
+
+    /// The first of so many rounds, and how many they are: as many as pass in calm, or else one.
+    fn play_some(&mut self, most: u32, seen: &mut Seen) -> Result<u32, NoMemory>
+        requires order { IsInOrder B.shown self.old }
+        requires sound { IsSoundState (state_of B.shown self.old) }
+        requires some { 1 ≤ most }
+        ensures some { IfOk result (λ n. 1 ≤ n) }
+        ensures most { IfOk result (λ n. n ≤ most) }
+        ensures state { IfOk result (λ n. state_of B.shown self.new
+            ≡ event.rounds n (state_of B.shown self.old)) }
+        ensures order { OnOk result (IsInOrder B.shown self.new) }
+        ensures sound { OnOk result (IsSoundState (state_of B.shown self.new)) }
+        ensures seen { IfOk result (λ n. seen.new
+            ≡ noted seen.old (capture.seen_rounds n (state_of B.shown self.old))) }
+    {
+        let calm = self.calm_rounds(most, seen);
+        if calm == 0 {
+            self.play_round(seen)?;
+            return Ok(1);
+        }
+        calm_rounds_pass();
+        self.pass_rounds(calm)?;
+        Ok(u32::from(calm))
     }
 
     /// One round.

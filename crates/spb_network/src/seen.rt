@@ -56,7 +56,7 @@ impl Seen {
     }
 
     /// Whether deliveries are watched.
-    fn is_watched(&self) -> bool
+    pub fn is_watched(&self) -> bool
         ensures { result ≡ is_some self.now }
     {
         self.watched

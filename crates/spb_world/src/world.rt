@@ -317,7 +317,7 @@ impl World {
     }
 
     /// Makes the fabric of the wiring, unless it is kept. Nothing that is declared changes.
-    fn keep_fabric(&mut self, alloc: Global) -> Result<(), NoMemory>
+    pub fn keep_fabric(&mut self, alloc: Global) -> Result<(), NoMemory>
         ensures { self.new ≡ self.old }
     {
         if self.fabric.is_none() {
@@ -326,6 +326,16 @@ impl World {
             self.fabric = Some(Fabric::new(alloc, roads, self.vids.as_slice())?);
         }
         Ok(())
+    }
+
+    /// The roads of the actual wiring, if its fabric is kept.
+    pub fn roads(&self) -> Option<&Roads>
+        ensures { IfSome result (λ roads. roads.now ≡ state.world_graph self.now) }
+    {
+        match &self.fabric {
+            None => None,
+            Some(fabric) => Some(fabric.roads()),
+        }
     }
 
     /// Makes ready what the tables that the wiring gives the bridge at a place are made of: its fabric, and the best

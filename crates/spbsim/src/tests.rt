@@ -8,10 +8,12 @@ use std::process::Abort;
 
 mod asking_box;
 mod boxes;
+mod calm;
 mod captures;
 mod failing_box;
 mod faults;
 mod runs;
+mod settling;
 
 /// Two bridges with a link between them.
 const TWO: &str = "bridge A 32768 020000000001 00001 1

@@ -317,4 +317,14 @@ impl Bridge for SwiftBridge {
     fn rest(&mut self) {
         self.control.rest();
     }
+
+    fn calm_seconds(&self) -> u16 {
+        self.control.calm_seconds()
+    }
+
+    fn pass_calm(&mut self, seconds: u16) -> Result<(), NoMemory> {
+        put_back(&mut self.shown, &self.kept);
+        self.control.pass_calm(seconds);
+        Ok(())
+    }
 }

@@ -8,3 +8,4 @@ pub mod Verdicts
 pub mod Arcs
 pub mod Proved
 pub mod Lasts
+mod Kept

@@ -165,7 +165,7 @@ entries_listed (b ∷ bs) (e ∷ es) apart long =
     later : (x : SystemId) → IsAmong x (systems_of bs) → entry_among (b ∷ bs) (e ∷ es) x ≡ entry_among bs es x
     later x i = rw (differs b.id.system x (λ same. apart.0 (subst (λ z. IsAmong z (systems_of bs)) (sym same) i))) refl
 
-before_is : (y z : SystemId) → Before y ≡ Before z → y ≡ z
+pub before_is : (y z : SystemId) → Before y ≡ Before z → y ≡ z
 before_is y z h = cc
 
 module _ (g : Graph) (mask : ℕ) (es : List Entry) (a : SystemId) (valid : IsValid g) (bridge : IsBridge g a) (nobody : NobodyFails g mask es a) where

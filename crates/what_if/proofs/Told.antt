@@ -39,7 +39,7 @@ is_less Less n = absurd (n refl)
 is_less Equal n = refl
 is_less Greater n = refl
 
-abbrev bridges_of : Option Label → Option (List SystemId)
+abbrev pub bridges_of : Option Label → Option (List SystemId)
 bridges_of o = option_map (λ l. l.bridges.items) o
 
 told : (s : Search) (l : Label) (arc : Arc) (x : SystemId) (old r : Option Label) → IsBridgeAt (graph_of s) arc.to x → Improves s arc l old r → is_some r ≡ gives_better (graph_of s) s.mask x (bridges_of old) (Some l.bridges.items)
@@ -62,7 +62,7 @@ told s l arc x old (Some new) at h =
 abbrev pub NoneBetter : Claim → ℕ → ℕ → Type 0
 NoneBetter c place n = (number : ℕ) (arc : Arc) → number < n → IsArcAt (rows_of c.mesh.now) place number arc → TellsBetter c arc false
 
-abbrev search_of : Claim → Search
+abbrev pub search_of : Claim → Search
 search_of c = record { mesh = c.mesh; source = c.source; mask = c.mask }
 
 -- an edge leads back
@@ -73,7 +73,7 @@ module _ (c : Claim) (claim : IsClaim c) where
   abbrev g : Graph
   g = c.mesh.now.graph
 
-  way_at : (place : ℕ) (x : SystemId) → IsBridgeAt g place x → IsWay g (way_in c x) (label_at c.ways.items place)
+  pub way_at : (place : ℕ) (x : SystemId) → IsBridgeAt g place x → IsWay g (way_in c x) (label_at c.ways.items place)
   way_at place x at = claim.ways.each place (at_within g place x at) x at
 
   pub way_label : (place : ℕ) (x : SystemId) (l : Label) → IsBridgeAt g place x → label_at c.ways.items place ≡ Some l → IsLabel (search_of c) x l

@@ -24,7 +24,7 @@ pub record Follows (g : Graph) (es : List Entry) (a : SystemId) (n : ℕ) (x : S
   pub before : way_within g es a n y ≡ Some q
   pub whole : p ≡ q ++ x ∷ []
 
-some_is : {A : Type 0} (x y : A) → Some x ≡ Some y → x ≡ y
+pub some_is : {A : Type 0} (x y : A) → Some x ≡ Some y → x ≡ y
 some_is x y h = cc
 
 behind_is : (g : Graph) (es : List Entry) (a : SystemId) (n : ℕ) (x : SystemId) (p : List SystemId) (e : Entry) → entry_for g es x ≡ e → behind g (λ y. way_within g es a n y) x e ≡ Some p → Follows g es a n x p

@@ -5,7 +5,8 @@ use Rattle.spb_types.specs.declared.address.SystemId.{SystemId}
 use Rattle.ect_trees.specs.declared.mesh.Arc.{Arc}
 use Rattle.ect_trees.specs.Arcs.{AreReady, IsBridgeAt, Leads}
 use Rattle.what_if.specs.declared.checking.Claim.{Claim}
-use Rattle.what_if.specs.Following.{way_of}
+use Rattle.what_if.specs.declared.entry.Entry.TheVariants.{Before}
+use Rattle.what_if.specs.Following.{entry_for, way_of}
 use Rattle.what_if.specs.Failing as failing
 use Rattle.what_if.specs.Labels.{AreWays}
 
@@ -19,6 +20,10 @@ pub record IsClaim (c : Claim) : Type 0 where
 -- the way of x
 abbrev pub way_in : Claim → SystemId → Option (List SystemId)
 way_in c x = way_of c.mesh.now.graph c.entries.now c.source x
+
+-- the entry of the bridge at the start of an arc names the neighbour at its end
+abbrev pub NamesEnd : Claim → Arc → Type 0
+NamesEnd c arc = (x u : SystemId) → Leads c.mesh.now.graph arc x u → entry_for c.mesh.now.graph c.entries.now x ≡ Before u
 
 -- whether the neighbour at the end of an arc gives the bridge at its start a better way
 abbrev pub TellsBetter : Claim → Arc → Bool → Type 0

@@ -17,6 +17,12 @@ is_start Entry.Start = true
 is_start (Entry.Before y) = false
 is_start Entry.Unreached = false
 
+-- the entry names y
+abbrev pub names : Entry → SystemId → Bool
+names Entry.Start y = false
+names (Entry.Before z) y = same_system z y
+names Entry.Unreached y = false
+
 -- the entry names a bridge that is no neighbour of x
 abbrev pub names_no_neighbour : Graph → SystemId → Entry → Bool
 names_no_neighbour g x Entry.Start = false

@@ -1,7 +1,8 @@
 //! Checking the entries of a proof.
-ghost use Rattle.std.specs.Prelude.{◌≡◌, ◌↔◌, ◌<◌, length, IfOk};
+ghost use Rattle.std.specs.Prelude.{◌≡◌, ◌↔◌, ◌<◌, false, length, Some, IfOk, IsTrue};
 ghost use Rattle.spb_types.specs.Graph.{IsBridge, IsValid};
 ghost use Rattle.ect_trees.specs.Arcs.{CanGo};
+ghost use Rattle.ect_trees.specs.Search.{label_at};
 ghost use Rattle.what_if.specs.Entries.{best_entries};
 ghost use Rattle.what_if.specs.Failing.{verdict_of};
 ghost use Rattle.what_if.specs.Claim as claim;
@@ -9,7 +10,7 @@ ghost use Rattle.what_if.specs.Claim as claim;
 use crate::entry::Entry;
 use crate::following::{system_at, ways};
 use ect_trees::{Arc, Label, Mesh, Roads, Search};
-use spb_types::{Graph, NoMemory, SystemId};
+use spb_types::{NoMemory, SystemId};
 use std::alloc::Global;
 
 /// What a checker answers: the entries prove the best paths; or they don't, and then the first bridge that shows it,
@@ -32,6 +33,34 @@ struct Claim<'a> {
 }
 
 impl<'a> Claim<'a> {
+    /// Whether the entry of the bridge at the start of an arc names the neighbour at its end.
+    fn names_end(&self, arc: Arc) -> bool
+        requires claim { claim.IsClaim self.now }
+        requires arc { CanGo self.now.mesh.now.graph arc }
+        ensures { IsTrue result → claim.NamesEnd self.now arc }
+    {
+        self.entries[arc.from].names(system_at(self.mesh, arc.to))
+    }
+
+    /// Whether the way of the bridge at the start of an arc costs less than that of the neighbour at its end with the arc,
+    /// or is just that, as the entry says. No hops and no ids are looked at.
+    fn keeps_way(&self, arc: Arc, way: &Label) -> bool
+        requires claim { claim.IsClaim self.now }
+        requires arc { CanGo self.now.mesh.now.graph arc }
+        requires way { label_at self.now.ways.items arc.to ≡ Some way.now }
+        ensures { IsTrue result → claim.TellsBetter self.now arc false }
+    {
+        let Some(own) = &self.ways[arc.from] else {
+            return false;
+        };
+        let cost = way.cost + u64::from(arc.cost);
+        if own.cost == cost {
+            self.names_end(arc)
+        } else {
+            own.cost < cost
+        }
+    }
+
     /// Whether the neighbour at the end of an arc gives the bridge at its start a better way.
     fn gives_better(&self, alloc: Global, arc: Arc) -> Result<bool, NoMemory>
         requires claim { claim.IsClaim self.now }
@@ -41,6 +70,9 @@ impl<'a> Claim<'a> {
         let Some(way) = &self.ways[arc.to] else {
             return Ok(false);
         };
+        if self.keeps_way(arc, way) {
+            return Ok(false);
+        }
         let back = Arc {
             from: arc.to,
             to: arc.from,
@@ -112,19 +144,18 @@ impl<'a> Claim<'a> {
 /// those by way of each neighbour alone.
 pub fn check(
     alloc: Global,
-    graph: &Graph,
+    roads: &Roads,
     mask: u8,
     from: SystemId,
     entries: &[Entry],
 ) -> Result<Verdict, NoMemory>
-    requires valid { IsValid graph.now }
-    requires from { IsBridge graph.now from }
-    requires long { length entries.now ≡ length graph.now.bridges }
-    ensures verdict { IfOk result (λ verdict. verdict ≡ verdict_of graph.now mask entries.now from) }
+    requires valid { IsValid roads.now }
+    requires from { IsBridge roads.now from }
+    requires long { length entries.now ≡ length roads.now.bridges }
+    ensures verdict { IfOk result (λ verdict. verdict ≡ verdict_of roads.now mask entries.now from) }
     ensures yes { IfOk result (λ verdict.
-        (verdict ≡ Verdict.Yes) ↔ (entries.now ≡ best_entries graph.now mask from)) }
+        (verdict ≡ Verdict.Yes) ↔ (entries.now ≡ best_entries roads.now mask from)) }
 {
-    let roads = Roads::new(alloc, graph)?;
     let ways = ways(alloc, roads.mesh(), entries, from)?;
     let claim = Claim {
         mesh: roads.mesh(),

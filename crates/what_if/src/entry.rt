@@ -12,12 +12,22 @@ pub enum Entry {
 
 impl Entry {
     ghost use Rattle.std.specs.Prelude.{◌≡◌};
-    ghost use Rattle.what_if.specs.Failing.{is_start};
+    ghost use Rattle.what_if.specs.Failing.{is_start, names};
 
     /// Whether the bridge is the source.
     pub fn is_start(self) -> bool
         ensures { result ≡ is_start self }
     {
         matches!(self, Entry::Start)
+    }
+
+    /// Whether this bridge is named.
+    pub fn names(self, bridge: SystemId) -> bool
+        ensures { result ≡ names self bridge }
+    {
+        match self {
+            Entry::Before(named) => named.is(bridge),
+            Entry::Start | Entry::Unreached => false,
+        }
     }
 }

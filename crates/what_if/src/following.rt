@@ -7,7 +7,7 @@ ghost use Rattle.what_if.specs.Labels as label;
 
 use crate::entry::Entry;
 use ect_trees::{Arc, Label, Mesh, Roads};
-use spb_types::{Graph, NoMemory, Path, Seq, SystemId};
+use spb_types::{NoMemory, Path, Seq, SystemId};
 use std::alloc::Global;
 
 /// The bridge at a place.
@@ -124,15 +124,14 @@ fn start_of(entries: &[Entry]) -> Option<usize>
 /// (IEEE 802.1aq, 28.5 to 28.8). It takes a step for each hop, and nothing is searched.
 pub fn along(
     alloc: Global,
-    graph: &Graph,
+    roads: &Roads,
     entries: &[Entry],
     to: SystemId,
 ) -> Result<Option<Path>, NoMemory>
-    requires valid { IsValid graph.now }
-    requires long { length entries.now ≡ length graph.now.bridges }
-    ensures { IfOk result (label.IsPathBy graph.now entries.now to) }
+    requires valid { IsValid roads.now }
+    requires long { length entries.now ≡ length roads.now.bridges }
+    ensures { IfOk result (label.IsPathBy roads.now entries.now to) }
 {
-    let roads = Roads::new(alloc, graph)?;
     let Some(start) = start_of(entries) else {
         return Ok(None);
     };

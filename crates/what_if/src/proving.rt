@@ -6,7 +6,7 @@ ghost use Rattle.ect_trees.specs.Tree.{GivesBest};
 ghost use Rattle.what_if.specs.Entries.{before_last, named, best_entry, best_entries};
 
 use crate::entry::Entry;
-use ect_trees::{Tree, tree_from};
+use ect_trees::{Roads, Tree};
 use spb_types::{Graph, NoMemory, SystemId};
 use std::alloc::Global;
 
@@ -50,10 +50,10 @@ pub fn entries_in(alloc: Global, graph: &Graph, tree: &Tree) -> Result<Vec<Entry
 
 /// The entries that prove the best paths from a bridge under a mask, one for each bridge of the graph in its order
 /// (IEEE 802.1aq, 28.5 to 28.8). The paths are searched once.
-pub fn prove(alloc: Global, graph: &Graph, mask: u8, from: SystemId) -> Result<Vec<Entry>, NoMemory>
-    requires { IsValid graph.now }
-    ensures { IfOk result (λ entries. entries.items ≡ best_entries graph.now mask from) }
+pub fn prove(alloc: Global, roads: &Roads, mask: u8, from: SystemId) -> Result<Vec<Entry>, NoMemory>
+    requires { IsValid roads.now }
+    ensures { IfOk result (λ entries. entries.items ≡ best_entries roads.now mask from) }
 {
-    let tree = tree_from(alloc, graph, from, mask)?;
-    entries_in(alloc, graph, &tree)
+    let tree = roads.tree(alloc, from, mask)?;
+    entries_in(alloc, roads.graph(), &tree)
 }

@@ -4,6 +4,7 @@ from __future__ import annotations
 import glob
 import json
 import os
+import re
 from typing import Any, Dict, Iterator, List
 
 from fabriclib.script import Script
@@ -30,8 +31,8 @@ def _is_refused(path: str) -> bool:
 
 def _of_topology(bench: Bench, path: str) -> Iterator[str]:
     told = bench.fabric("import", path, "--isid", "100", "--vids", "10,20")
-    played = bench.play(told.out + "round 400\nstate\n")
-    if told.status != 0 or played.out != "state quiet\n":
+    played = bench.play(told.out + "settle\n")
+    if told.status != 0 or not re.fullmatch("settle [0-9]+ quiet\n", played.out):
         yield f"import {os.path.relpath(path, TOP)}: {played.out.strip() or told.err.strip()}"
 
 

@@ -125,11 +125,14 @@ _TOLD: List[Tuple[str, str, Optional[int], str]] = [
     ("check alpha beta 10 - alpha", "Range", None, "9:28: Range: 2 entries for 3 bridges; the next is that of gamma"),
     ("check alpha beta 10 - - - .", "Range", None, "9:27: Range: 4 entries for 3 bridges; each has one, in order"),
     ("chek alpha beta 10 -", "Words", 1, "`chek` is no keyword; is `check` meant?"),
+    ("settle 5", "Words", 8, "9:8: Words: a word more than the form has"),
+    ("setle", "Words", 1, "`setle` is no keyword; is `settle` meant?"),
+    ("settle", "TooMany", None, "9:1: TooMany: for 3 bridges it may make 28 rounds, and the rounds of a run are"),
 ]
 
 
 def _of_words() -> Iterator[str]:
-    """What is told of refused questions."""
+    """What is told of refused questions, and of `settle`."""
     for text, reason, column, wanted in _TOLD:
         told = _explained(Case(Script("s", f"{_SQUARE}{text}\n".encode()), reason, column))[0]
         if wanted not in told:
@@ -174,7 +177,7 @@ def _played(path: str) -> Tuple[List[Answer], int]:
 
 
 def _of_answers() -> Iterator[str]:
-    """Each question of an example has its answer, and all answers together are the output."""
+    """Each line of an example that is always answered has its answer, and all answers together are the output."""
     for name in sorted(os.listdir(EXAMPLES)):
         if name.endswith(".spb"):
             for fault in _of_example(os.path.join(EXAMPLES, name)):
@@ -191,13 +194,15 @@ def _of_example(path: str) -> Iterator[str]:
     told = b"".join(line for answer in answers for line in answer.lines).decode()
     if not re.fullmatch("(error .*\n)?", output[len(told) :]) or not output.startswith(told):
         yield ": the answers aren't those of the output"
-    asked = [place for place in range(accepted) if lines[place].keyword in language.QUESTIONS]
+    asked = [place for place in range(accepted) if lines[place].keyword in language.ANSWERED]
     if not set(asked) <= {answer.place for answer in answers}:
-        yield ": a question has no answer"
+        yield ": a line has no answer"
     for place, texts in ((answer.place, answer.texts()) for answer in answers):
         front = lines[place].keyword if place in asked else "out"
-        if texts[0].split()[0] != front:
-            yield f":{place + 1}: {texts[0]!r} is no answer"
+        # What leaves in the rounds of `settle` stands before the line that tells them.
+        told_first = texts[-1] if front == "settle" else texts[0]
+        if told_first.split()[0] != front:
+            yield f":{place + 1}: {told_first!r} is no answer"
 
 
 # Lines of answers of examples/planned-cut.spb, behind its last line, and what each says. The link from north to east is
@@ -217,6 +222,8 @@ _SAYS: List[Tuple[str, Optional[str]]] = [
     ("check yes 30 3 north west south east", None),
     ("check yes none", None),
     ("check no 2", "shown by east"),
+    ("settle 7 quiet", None),
+    ("settle 32 busy own", "before the first of them a bridge was about to originate an LSP anew"),
 ]
 
 

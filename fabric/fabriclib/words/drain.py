@@ -1,6 +1,6 @@
 """The lines by which traffic leaves a bridge, before it restarts: at its ends its links get the greatest metric. The
-cost of a link is the greater of its two metrics, so one end is enough. Give the network rounds, look at `state`, and
-restart the bridge; `undrain` brings the traffic back."""
+cost of a link is the greater of its two metrics, so one end is enough. Put `settle` behind them, and restart the
+bridge; `undrain` brings the traffic back."""
 from __future__ import annotations
 
 import argparse

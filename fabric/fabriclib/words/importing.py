@@ -62,8 +62,7 @@ def run(told: argparse.Namespace) -> int:
         say(note)
     sys.stdout.write("".join(line + "\n" for line in lines))
     say(
-        f"{counted(len(names), 'bridge')} and {counted(len(edges), 'link')}; give them `round {4 * len(names) + 16}` "
-        "and ask `state`"
+        f"{counted(len(names), 'bridge')} and {counted(len(edges), 'link')}; put `settle` behind them, and they come up"
     )
     return 0
 

@@ -1,5 +1,5 @@
 """The lines by which a bridge fails: `down` for each of its links that is up, as the script leaves it. Put them behind
-the script, and `round` behind them."""
+the script, and `settle` behind them."""
 from __future__ import annotations
 
 import argparse

@@ -12,6 +12,7 @@ from collections import Counter
 from dataclasses import dataclass, field
 from typing import Any, Callable, Dict, Generator, List, Optional, Tuple
 
+from fabriclib import language
 from fabriclib.follow import Fabric, Rows, rows_of
 from fabriclib.play import Tape, play
 from fabriclib.script import Script, World
@@ -54,7 +55,7 @@ class Second:
 def run(told: argparse.Namespace) -> int:
     """Plays the script up to the line, and the seconds behind it."""
     world = told.script.world(told.at)
-    seconds = told.seconds if told.seconds is not None else 4 * len(world.bridges) + 16
+    seconds = told.seconds if told.seconds is not None else language.most_settling(len(world.bridges))
     wired, shown = _followed(told.program, told.script, told.at, max(seconds, 0))
     if told.json:
         print(json.dumps([_record(second) for second in shown], indent=1))

@@ -8,7 +8,7 @@ from typing import Dict, Iterator, List, NamedTuple, Optional, Tuple
 
 from fabriclib import language
 from fabriclib.naming import Names
-from fabriclib.play import Refused, Tape, play
+from fabriclib.play import Refused, Tape, play, settled_rounds
 from fabriclib.script import Line, World
 from fabriclib.terminal import paint
 
@@ -68,6 +68,8 @@ def _entries(
     for line in lines:
         world.apply(line)
         own = answers.get(places[line.number], [])
+        if line.keyword == "settle" and own:
+            world.seconds += settled_rounds(own)
         state = answers.get(states.get(line.number, -1), [""])[0]
         names = Names(world, line.words[1] if len(line.words) > 1 else "") if own else None
         told = [(text, names.note(text) if names else None) for text in own]

@@ -3,7 +3,7 @@ if exists("b:current_syntax")
   finish
 endif
 syntax match spbDeclare /^\s*\(vid\|bridge\|link\|isid\|attach\|detach\)\>/
-syntax match spbEvent /^\s*\(metric\|down\|up\|restart\|tick\|deliver\|lose\|double\|round\|drain\|frame\)\>/
+syntax match spbEvent /^\s*\(metric\|down\|up\|restart\|tick\|deliver\|lose\|double\|round\|drain\|settle\|frame\)\>/
 syntax match spbAsk /^\s*\(state\|show\|wiring\|db\|adj\|path\|drops\|proof\|check\)\>/
 syntax match spbAsk /^\s*whatif\(\s\+\(down\|up\|metric\)\)\?\>/
 syntax match spbNumber /\s\@<=[0-9][0-9A-Fa-f]*\>/

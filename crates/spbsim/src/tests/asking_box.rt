@@ -1,4 +1,4 @@
-//! A box that is asked for each row of its tables.
+//! A box that is asked for each row of its tables. It says of no second that it passes in calm, so each is played.
 ghost use Rattle.std.specs.Prelude.{◌≡◌, false};
 
 use adjacency::Adjacency;

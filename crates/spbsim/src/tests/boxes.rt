@@ -79,12 +79,12 @@ fn the_program_has_256_boxes_of_each_kind(rt: HostRuntime) {
 }
 
 /// A blank box.
-fn blank(rt: &impl Abort, alloc: Global) -> Box<PlainBridge> {
+pub(super) fn blank(rt: &impl Abort, alloc: Global) -> Box<PlainBridge> {
     Box::new(alloc, PlainBridge::blank(alloc)).expect(rt, "out of memory")
 }
 
 /// Puts a box to a rack.
-fn put<B: Bridge>(rt: &impl Abort, rack: &mut Vec<B>, bridge: B) {
+pub(super) fn put<B: Bridge>(rt: &impl Abort, rack: &mut Vec<B>, bridge: B) {
     rack.push(bridge).expect(rt, "out of memory");
 }
 
@@ -159,7 +159,7 @@ fn address(number: u8) -> Mac {
 }
 
 /// Declares two bridges of one port each, and a link between them.
-fn declare_two<B: Bridge>(
+pub(super) fn declare_two<B: Bridge>(
     network: &mut NetworkOf<B>,
     a: Name,
     b: Name,
@@ -221,7 +221,7 @@ fn own_id(number: u8) -> LspId {
 }
 
 /// A name of a command.
-fn name(rt: &impl Abort, word: &[u8]) -> Name {
+pub(super) fn name(rt: &impl Abort, word: &[u8]) -> Name {
     Name::new(word).expect(rt, "no name")
 }
 

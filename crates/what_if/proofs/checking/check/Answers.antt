@@ -10,9 +10,10 @@ use Rattle.what_if.proofs.checking.check.Goals as goal
 
 pub returns-clause-yes : goal.returns-clause-yes
 returns-clause-yes c =
-    let g = c.args.graph.now in
+    let g = c.args.roads.now in
     let es = c.args.entries.now in
-    let same : c.mesh-2.result.now.graph ≡ g = c.mesh-2.ensures.same ∙ c.in_ok-roads.ensures in
+    let mask = c.args.mask in
+    let from = c.args.from in
     IfOk-weaker c.verdict.result _ _ (λ (v : Verdict) told.
-    let is : v ≡ verdict_of g c.args.mask es c.args.from = told ∙ ap (λ (t : Graph). verdict_of t c.args.mask es c.args.from) same in
-    subst (λ t. (t ≡ Yes) ↔ (es ≡ best_entries g c.args.mask c.args.from)) (sym is) (yes_is_best g c.args.mask es c.args.from c.requires.valid c.requires.from c.requires.long)) c.verdict.ensures
+    let is : v ≡ verdict_of g mask es from = told ∙ ap (λ (t : Graph). verdict_of t mask es from) c.mesh-2.ensures.same in
+    subst (λ t. (t ≡ Yes) ↔ (es ≡ best_entries g mask from)) (sym is) (yes_is_best g mask es from c.requires.valid c.requires.from c.requires.long)) c.verdict.ensures

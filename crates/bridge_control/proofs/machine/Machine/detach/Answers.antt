@@ -1,5 +1,4 @@
 use Rattle.std.proofs.Common.{List, sym, ap, ◌∙◌}
-use Rattle.std.specs.List.{list_all}
 use Rattle.spb_types.specs.declared.service.Attachment.{Attachment}
 use Rattle.std.proofs.lemmas.Result.{on_ok_weaker}
 use Rattle.forwarding.specs.declared.tenant.Tenant.{Tenant}
@@ -19,7 +18,7 @@ tell-requires c =
 pub returns-then-is_said : goal.returns-then-is_said
 returns-then-is_said c =
     let m : Machine = c.args.self.now in
-    detached_unsaid m (record m { tenant = c.detach.new.tenant }) c.args.port c.requires.ready c.requires.attached (ap (λ (attached : List Attachment). list_all (is_covered c.args.port attached) attached) (sym c.as_slice.ensures) ∙ (sym c.are_covered-is_said.ensures ∙ c.if-is_said.true)) (ap (λ (t : Tenant). record m { tenant = t }) c.in_ok-detach.ensures.ok)
+    detached_unsaid m (record m { tenant = c.detach.new.tenant }) c.args.port c.requires.ready c.requires.attached (ap (λ (attached : List Attachment). is_covered c.args.port attached) (sym c.as_slice.ensures) ∙ (sym c.is_covered-is_said.ensures ∙ c.if-is_said.true)) (ap (λ (t : Tenant). record m { tenant = t }) c.in_ok-detach.ensures.ok)
 
 pub returns : goal.returns
 returns c =
