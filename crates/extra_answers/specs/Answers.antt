@@ -84,8 +84,8 @@ check_in w from to entries (Some plan) =
 
 -- ---- each question
 
--- the lines that are answered to a question that isn't refused. To settle is no question: it changes the network, and is
--- judged apart from these
+-- the lines that are answered to a question that isn't refused. To settle is no question: it changes the network, and
+-- is judged apart from these
 abbrev pub extra_text : World → Extra → List ℕ
 extra_text w (WhatIf change) = whatif_text (named_changes w change)
 extra_text w (Proof from to vid) = proof_in w from to (planned_for w.vids vid)

@@ -24,8 +24,8 @@ check_refusal w from to vid entries = path_refusal w from to vid
     or reason_unless (list_all (is_known w.bridges) entries) NoSuchName
     or reason_unless (length entries == length w.bridges) Range
 
--- of each question: what a change would do is refused as the change is. To settle is no question, and is refused by what
--- the network did before, not by what is declared
+-- of each question: what a change would do is refused as the change is. To settle is no question, and is refused by
+-- what the network did before, not by what is declared
 abbrev pub extra_refusal : World → Extra → Option Reason
 extra_refusal w (WhatIf change) = change_refusal w change
 extra_refusal w (Proof from to vid) = path_refusal w from to vid

@@ -1,4 +1,5 @@
--- The lines of extras, which are no commands: `whatif`, `proof` and `check`, questions that change nothing; and `settle`.
+-- The lines of extras, which are no commands: `whatif`, `proof` and `check`, questions that change nothing; and
+-- `settle`.
 use Rattle.std.specs.Prelude.{◌≡◌, ℕ, zero, suc, ◌+◌, ◌-◌, ◌≤◌, ◌<◌, List, [], ◌∷◌, ◌++◌, length, nat_lt, Bool, true, false, IsTrue, if◌then◌else◌, Option, Some, None, Result, Ok, Err, ⊤, ◌||◌, ◌==◌}
 use Rattle.std.specs.Option.{is_some}
 use Rattle.spb_types.specs.declared.entry_word.EntryWord.{EntryWord}

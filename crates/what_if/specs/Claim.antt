@@ -23,7 +23,8 @@ way_in c x = way_of c.mesh.now.graph c.entries.now c.source x
 
 -- the entry of the bridge at the start of an arc names the neighbour at its end
 abbrev pub NamesEnd : Claim → Arc → Type 0
-NamesEnd c arc = (x u : SystemId) → Leads c.mesh.now.graph arc x u → entry_for c.mesh.now.graph c.entries.now x ≡ Before u
+NamesEnd c arc = (x u : SystemId) → Leads c.mesh.now.graph arc x u
+    → entry_for c.mesh.now.graph c.entries.now x ≡ Before u
 
 -- whether the neighbour at the end of an arc gives the bridge at its start a better way
 abbrev pub TellsBetter : Claim → Arc → Bool → Type 0
