@@ -29,3 +29,5 @@ pub mod CalmRest
 pub mod CalmRounds
 pub mod CalmQuiet
 pub mod CalmWitness
+pub mod Crossed
+pub mod CrossingWitness

@@ -39,7 +39,7 @@ use Rattle.bridge_api.proofs.Configured.{long_first}
 use Rattle.bridge_laws.proofs.FewHeld.{steps_bring_few}
 use Rattle.spb_world.specs.Declaring.{vid_refusal, plan_of, bridge_of, with_vid, with_bridge, with_link, with_live}
 use Rattle.spb_world.specs.Links.{is_live, lane_out}
-use Rattle.spb_world.specs.World.{World}
+use Rattle.spb_world.specs.World.{World, Bridges}
 use Rattle.spb_world.specs.declared.declaration.DeclaredLink.{DeclaredLink}
 use Rattle.network_model.specs.State.{State, next_box, links_of}
 use Rattle.network_model.specs.declared.kind_rule.KindRule.TheVariants as rule
@@ -59,10 +59,10 @@ use Rattle.network_rounds.specs.SettlingLaws.{SomeNetworkSettles}
 
 -- ---- a bridge right after its first carrier holds its own LSPs for 1,200 seconds, and few of them
 
-abbrev IsNew : LspId → Entry → Type 0
+abbrev pub IsNew : LspId → Entry → Type 0
 IsNew id e = time.is_live e.version ≡ true → e.lifetime ≡ MAX_AGE
 
-abbrev AreNew : Lsps → Type 0
+abbrev pub AreNew : Lsps → Type 0
 AreNew db = AllEntries IsNew db
 
 next_new : (up : PortSet) (id : LspId) (body : List ℕ) (seq : ℕ) (held : Option Entry) → IsNew id (next_entry up id body seq held)
@@ -79,7 +79,7 @@ new_brought up number h all =
     (λ body fresh has. inserted IsNew h.db id (next_entry up id body (number_of (version_in (get h.db id))) (get h.db id)) all (next_new up id body (number_of (version_in (get h.db id))) (get h.db id)))
     (λ seq sum live. all_changed IsNew (purged seq up) h.db id all (λ e held dead. absurd cc))
 
-new_settled : (v : BridgeView) → AreNew v.database → AreNew (originated_if_changed v).database
+pub new_settled : (v : BridgeView) → AreNew v.database → AreNew (originated_if_changed v).database
 unfolding originated_if_changed
 new_settled v all = settling_keeps (λ g. AreNew g.db) says (up_ports v) (holding_of v) (λ number g below before. new_brought (up_ports v) number g before) all
 
@@ -109,12 +109,12 @@ new_carrier v n is all =
     subst (λ (ports : List BridgePort). AreNew (with_carrier_at 1 true (port_in ports 1) v).database) (sym is)
     (new_settled (record v { ports = slice_set v.ports 0 (first_port n) }) all)
 
-new_first : (c : BridgeConfig) (m n : ℕ) → c.metrics ≡ m ∷ [] → AreNew (with_first_carrier c n).database
+pub new_first : (c : BridgeConfig) (m n : ℕ) → c.metrics ≡ m ∷ [] → AreNew (with_first_carrier c n).database
 new_first c m n is =
     new_carrier (with_metric 1 n (configured c)) n (with_metric_port (configured c) m n (configured_ports c ∙ ap (map port_without_carrier) is))
     (new_metric (configured c) n (new_configured c))
 
-sixteen : own_numbers ≡ 16
+pub sixteen : own_numbers ≡ 16
 unfolding own_numbers
 sixteen = refl
 
@@ -122,7 +122,7 @@ few_configured : (c : BridgeConfig) → c.last ≡ first_life → len (configure
 unfolding configured
 few_configured c first = omega (arith, starting_brings_few c.last (holding_of (bare c)), len-empty id_cmp Entry, long_first c first, sixteen)
 
-few_first : (c : BridgeConfig) (n : ℕ) → c.last ≡ first_life → len (with_first_carrier c n).database ≤ 48
+pub few_first : (c : BridgeConfig) (n : ℕ) → c.last ≡ first_life → len (with_first_carrier c n).database ≤ 48
 few_first c n first =
     omega (arith, few_configured c first, steps_bring_few (metric 1 n) (configured c) tt, steps_bring_few (carrier 1 true) (step (metric 1 n) (configured c)) tt, sixteen)
 
@@ -144,46 +144,41 @@ different_fewer (x ∷ xs) = by (is_among xs x) (different_fewer xs)
     by true few = omega (arith, few)
     by false few = omega (arith, few)
 
+-- a bridge whose LSPs are new and few
+pub record IsYoung (v : BridgeView) : Type 0 where
+  pub new : AreNew v.database
+  pub few : len v.database ≤ 64
+
+first : (n : ℕ) → IsYoung (with_first_carrier (config n) 10)
+first n = record { new = new_first (config n) 1 10 refl; few = omega (arith, few_first (config n) 10 refl) }
+
 -- ---- two bridges and their link
 
-abbrev link : DeclaredLink
+abbrev pub link : DeclaredLink
 link = record { a = record { bridge = 0; port = 1; metric = 10 }; b = record { bridge = 1; port = 1; metric = 10 }; live = true }
 
+abbrev pub bridges : Bridges
+bridges = (97 ∷ [], bridge_of 32768 (config 1).id.system.mac (source 1) 1) ∷ (98 ∷ [], bridge_of 32768 (config 2).id.system.mac (source 2) 1) ∷ []
+
 abbrev world : World
-world = record {
-  vids = plan_of 100 1 ∷ [];
-  bridges = (97 ∷ [], bridge_of 32768 (config 1).id.system.mac (source 1) 1) ∷ (98 ∷ [], bridge_of 32768 (config 2).id.system.mac (source 2) 1) ∷ [];
-  links = (108 ∷ [], link) ∷ [];
-  services = [];
-  attached = [];
-}
+world = record { vids = plan_of 100 1 ∷ []; bridges = bridges; links = (108 ∷ [], link) ∷ []; services = []; attached = [] }
 
-abbrev linked_by : BridgeView → BridgeView → State
-linked_by v w = record { rule = rule.Plain; rack = []; world = world; views = v ∷ w ∷ []; lanes = no_frames ∷ []; outs = []; rounds = 0; drained = 0; accepted = 4; ticks = 0 ∷ 0 ∷ [] }
+-- in this world, after so many commands
+abbrev linked_by : World → ℕ → BridgeView → BridgeView → State
+linked_by x n v w = record { rule = rule.Plain; rack = []; world = x; views = v ∷ w ∷ []; lanes = no_frames ∷ []; outs = []; rounds = 0; drained = 0; accepted = n; ticks = 0 ∷ 0 ∷ [] }
 
--- a bridge with one port, which isn't Up, whose LSPs are new and few
-record IsFirst (v : BridgeView) : Type 0 where
-  down : is_up_at v 1 ≡ false
-  new : AreNew v.database
-  few : len v.database ≤ 48
+module _ (x : World) (n : ℕ) (v w : BridgeView) (here : IsYoung v) (there : IsYoung w) where
+  abbrev s : State
+  s = linked_by x n v w
 
-first : (n : ℕ) → IsFirst (with_first_carrier (config n) 10)
-unfolding is_up_at
-first n = record {
-  down = ap (λ (ports : List BridgePort). is_up_in (port_in ports 1)) (first_ports (config n) 1 10 refl);
-  new = new_first (config n) 1 10 refl;
-  few = few_first (config n) 10 refl;
-}
-
-module _ (v w : BridgeView) (here : IsFirst v) (there : IsFirst w) where
-  plain : has_no_customers (linked_by v w) ≡ true
+  plain : has_no_customers s ≡ true
   unfolding has_no_customers
   plain = refl
 
-  held_long : (m : ℕ) (u : BridgeView) → m < 1200 → IsFirst u → holds_only (λ id e. entry_outlives m e) u.database ≡ true
+  held_long : (m : ℕ) (u : BridgeView) → m < 1200 → IsYoung u → holds_only (λ id e. entry_outlives m e) u.database ≡ true
   held_long m u low is = all_pass (λ id e. entry_outlives m e) u.database (λ id e held. new_outlives m e.version e.lifetime low (is.new id e held))
 
-  own_long : (m : ℕ) (u : BridgeView) → m < 1200 → IsFirst u → holds_only (own_outlives m u.id.system) u.database ≡ true
+  own_long : (m : ℕ) (u : BridgeView) → m < 1200 → IsYoung u → holds_only (own_outlives m u.id.system) u.database ≡ true
   own_long m u low is =
       all_pass (own_outlives m u.id.system) u.database
       (λ id e held. from_first (is_own_number u.id.system id) (entry_outlives m e) (λ own. new_outlives m e.version e.lifetime low (is.new id e held)))
@@ -191,17 +186,17 @@ module _ (v w : BridgeView) (here : IsFirst v) (there : IsFirst w) where
   both : (test : BridgeView → Bool) → test v ≡ true → test w ≡ true → list_all test (v ∷ w ∷ []) ≡ true
   both test one other = both_true (test v) (list_all test (w ∷ [])) one (both_true (test w) true other refl)
 
-  all_long : outlive 24 (linked_by v w) ≡ true
+  all_long : outlive 24 s ≡ true
   unfolding outlive
   all_long =
       both_true (list_all (λ u. holds_only (λ id e. entry_outlives 24 e) u.database) (v ∷ w ∷ [])) true
       (both (λ u. holds_only (λ id e. entry_outlives 24 e) u.database) (held_long 24 v (omega arith) here) (held_long 24 w (omega arith) there)) refl
 
-  owns_long : owns_outlive 24 (linked_by v w) ≡ true
+  owns_long : owns_outlive 24 s ≡ true
   unfolding owns_outlive
   owns_long = both (λ u. holds_only (own_outlives (24 + 300) u.id.system) u.database) (own_long 324 v (omega arith) here) (own_long 324 w (omega arith) there)
 
-  few_ids : has_few_ids (linked_by v w) ≡ true
+  few_ids : has_few_ids s ≡ true
   unfolding has_few_ids
   few_ids =
       let ids : List LspId = ids_of v ++ (ids_of w ++ []) in
@@ -209,36 +204,46 @@ module _ (v w : BridgeView) (here : IsFirst v) (there : IsFirst w) where
       let other : length (ids_of w) ≡ len w.database = length-map (entries w.database) (λ e. e.0) ∙ sym (len-entries w.database) in
       le-leb (length (different_ids ids)) 900 (omega (arith, different_fewer ids, length-append (ids_of v) (ids_of w ++ []), length-append (ids_of w) [], one, other, here.few, there.few))
 
-  ready : is_ready 24 (linked_by v w) ≡ true
+  pub ready : is_ready 24 s ≡ true
   unfolding is_ready
   ready =
-      both_true (has_no_customers (linked_by v w)) (outlive 24 (linked_by v w) && (owns_outlive 24 (linked_by v w) && has_few_ids (linked_by v w))) plain
-      (both_true (outlive 24 (linked_by v w)) (owns_outlive 24 (linked_by v w) && has_few_ids (linked_by v w)) all_long
-      (both_true (owns_outlive 24 (linked_by v w)) (has_few_ids (linked_by v w)) owns_long few_ids))
+      both_true (has_no_customers s) (outlive 24 s && (owns_outlive 24 s && has_few_ids s)) plain
+      (both_true (outlive 24 s) (owns_outlive 24 s && has_few_ids s) all_long
+      (both_true (owns_outlive 24 s) (has_few_ids s) owns_long few_ids))
+
+-- ---- it isn't quiet
+
+first_down : (n : ℕ) → is_up_at (with_first_carrier (config n) 10) 1 ≡ false
+unfolding is_up_at
+first_down n = ap (λ (ports : List BridgePort). is_up_in (port_in ports 1)) (first_ports (config n) 1 10 refl)
+
+module _ (v w : BridgeView) (down : is_up_at v 1 ≡ false) where
+  abbrev early : State
+  early = linked_by world 4 v w
 
   -- the first port would be Up, if it were quiet
-  not_quiet : IsQuiet (linked_by v w) → ⊥
+  not_quiet : IsQuiet early → ⊥
   not_quiet quiet =
-      let met = ((quiet_says (linked_by v w)).quiet.0 quiet).met.met 0 Ab link refl refl in
+      let met = ((quiet_says early).quiet.0 quiet).met.met 0 Ab link refl refl in
       let same : v ≡ met.v = same_Some v met.v met.here in
-      absurd (true≢false (sym met.up ∙ (ap (λ (u : BridgeView). is_up_at u 1) (sym same) ∙ here.down)))
+      absurd (true≢false (sym met.up ∙ (ap (λ (u : BridgeView). is_up_at u 1) (sym same) ∙ down)))
 
-  busy : is_quiet (linked_by v w) ≡ false
-  busy = by (is_quiet (linked_by v w)) refl
+  busy : is_quiet early ≡ false
+  busy = by (is_quiet early) refl
     where
-      by : (b : Bool) → is_quiet (linked_by v w) ≡ b → is_quiet (linked_by v w) ≡ false
-      by true e = absurd (not_quiet (nil_of (failing (linked_by v w)) e))
+      by : (b : Bool) → is_quiet early ≡ b → is_quiet early ≡ false
+      by true e = absurd (not_quiet (nil_of (failing early) e))
       by false e = e
 
 -- ---- the commands
 
 pub is_ready_there : is_ready (most_settling (state_after declaring)) (state_after declaring) ≡ true
 unfolding next_state vid_refusal with_vid with_bridge with_link with_live next_box lane_out stepped switched_on with_vid_more declared linked named_link
-is_ready_there = ready (with_first_carrier (config 1) 10) (with_first_carrier (config 2) 10) (first 1) (first 2)
+is_ready_there = ready world 4 (with_first_carrier (config 1) 10) (with_first_carrier (config 2) 10) (first 1) (first 2)
 
 is_busy_there : is_quiet (state_after declaring) ≡ false
 unfolding next_state vid_refusal with_vid with_bridge with_link with_live next_box lane_out stepped switched_on with_vid_more declared linked named_link
-is_busy_there = busy (with_first_carrier (config 1) 10) (with_first_carrier (config 2) 10) (first 1) (first 2)
+is_busy_there = busy (with_first_carrier (config 1) 10) (with_first_carrier (config 2) 10) (first_down 1)
 
 pub is_live_there : is_live (links_of (state_after declaring)) 0 ≡ true
 unfolding next_state vid_refusal with_vid with_bridge with_link with_live next_box lane_out stepped switched_on with_vid_more declared linked named_link

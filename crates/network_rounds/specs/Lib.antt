@@ -9,3 +9,4 @@ pub mod Agreement
 pub mod SettlingLaws
 pub mod Calm
 pub mod CalmLaws
+pub mod Crossing
