@@ -1,5 +1,6 @@
 //! What a frame is: a control frame with its PDU, one with an I-TAG, or neither.
-ghost use Rattle.std.specs.Prelude.{◌≡◌, ◌≤◌, length};
+ghost use Rattle.std.specs.Prelude.{◌≡◌, ◌≤◌, length, take, drop};
+ghost use Rattle.std.specs.Str.{bytes_eq};
 ghost use Rattle.itag_frames.specs.Frame as spec;
 ghost use Rattle.itag_frames.specs.Classify.{content_in, control_in};
 
@@ -50,7 +51,15 @@ fn has_pdu(frame: &[u8]) -> bool
     ensures { result ≡ spec.has_pdu frame.now }
 {
     let len = length_of(frame);
-    (3 <= len && len <= 1500 && len <= frame.len() - 14) && &frame[14..17] == LLC.as_slice()
+    (3 <= len && len <= 1500 && len <= frame.len() - 14) && has_llc(frame)
+}
+
+/// Whether the three LLC bytes stand where those of a control frame do.
+fn has_llc(frame: &[u8]) -> bool
+    requires { 17 ≤ length frame.now }
+    ensures { result ≡ bytes_eq (take 3 (drop 14 frame.now)) spec.llc }
+{
+    [frame[14], frame[15], frame[16]] == LLC
 }
 
 fn length_of(frame: &[u8]) -> usize

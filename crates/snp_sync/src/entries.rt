@@ -80,7 +80,7 @@ fn put_entry(
 }
 
 /// The entries of the LSPs that are to be acknowledged or asked for at a port, in order of id. No flags stand but at these
-/// places, and none are looked for elsewhere. Room for the entries of one TLV is taken first.
+/// places, and none are looked for elsewhere. Room for an entry at each place is taken first.
 pub fn entries_with_ssn(
     alloc: Global,
     db: &Database,
@@ -92,7 +92,7 @@ pub fn entries_with_ssn(
     requires places { AreFlagsAt 0 places.now (finite.entries db.now) }
     ensures { IfOk result (λ v. v.items ≡ snp_entries_where (has_ssn_at port) db.now) }
 {
-    let mut entries = Vec::with_capacity(alloc, ENTRIES_PER_TLV)?;
+    let mut entries = Vec::with_capacity(alloc, places.len())?;
     for k in 0..places.len() {
         put_entry(db, places[k], port, &mut entries)?;
     }

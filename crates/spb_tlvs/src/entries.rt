@@ -1,7 +1,7 @@
 //! TLV 9 (LSP Entries), read and written.
-ghost use Rattle.std.specs.Prelude.{◌≡◌, ◌*◌, ◌≤◌, ◌++◌, length, map, take, IfOk, OnOk, OnErr};
+ghost use Rattle.std.specs.Prelude.{◌≡◌, ◌*◌, ◌≤◌, ◌++◌, length, take, OnOk, OnErr, IfErr};
 ghost use Rattle.spb_tlvs.specs.Tlv.{tlv};
-ghost use Rattle.spb_tlvs.specs.Reading.{Reads};
+ghost use Rattle.spb_tlvs.specs.Reading.{Reads, Refuses, AreAppended};
 ghost use Rattle.spb_tlvs.specs.Entry.{entries_of, entries_value, entry_at, entry_bytes};
 
 use crate::append::{put, whole_or_none};
@@ -28,17 +28,25 @@ pub struct SnpEntry {
 pub fn read_entries(alloc: Global, value: &[u8]) -> Result<Vec<SnpEntry>, TlvError>
     ensures { Reads result (entries_of value.now) }
 {
-    let (entries, rest) = value.as_chunks::<16>();
+    let mut entries = Vec::with_capacity(alloc, value.len() / 16)?;
+    append_entries(&mut entries, value)?;
+    Ok(entries)
+}
+
+/// Reads the value of a TLV 9 as [`read_entries`] does, and puts its entries behind others. Where the vector has room
+/// for them, one for each 16 bytes, no memory is taken. After an error some of them may stand behind the others.
+pub fn append_entries(entries: &mut Vec<SnpEntry>, value: &[u8]) -> Result<(), TlvError>
+    ensures ok { OnOk result (AreAppended entries.old.items entries.new.items (entries_of value.now)) }
+    ensures err { IfErr result (λ e. Refuses e (entries_of value.now)) }
+{
+    let (chunks, rest) = value.as_chunks::<16>();
     if !rest.is_empty() {
         return Err(TlvError::Cut);
     }
-    Ok(entries_in(alloc, entries)?)
-}
-
-fn entries_in(alloc: Global, entries: &[[u8; 16]]) -> Result<Vec<SnpEntry>, AllocError>
-    ensures { IfOk result (λ v. v.items ≡ map entry_at entries.now) }
-{
-    entries.iter().map(|entry| entry_in(entry)).collect(alloc)
+    for chunk in chunks {
+        entries.push(entry_in(chunk))?;
+    }
+    Ok(())
 }
 
 fn entry_in(entry: &[u8; 16]) -> SnpEntry

@@ -13,7 +13,7 @@ pub use codes::{
     AREA_ADDRESSES, EXTENDED_IS_REACHABILITY, LSP_ENTRIES, MT_CAPABILITY, PROTOCOLS_SUPPORTED,
     THREE_WAY_ADJACENCY,
 };
-pub use entries::{SnpEntry, read_entries, write_entries};
+pub use entries::{SnpEntry, append_entries, read_entries, write_entries};
 pub use error::TlvError;
 pub use laws::{
     capability_again, capability_same, entries_again, entries_same, neighbours_again,
