@@ -1,6 +1,7 @@
 -- What one application of a command answers, and what it leaves.
-use Rattle.std.specs.Prelude.{◌≡◌, ◌⊎◌, ◌≤◌, [], true, false, Some, None, Result, Ok, Err}
+use Rattle.std.specs.Prelude.{◌≡◌, ◌⊎◌, ◌≤◌, [], Bool, true, false, Some, None, Result, Ok, Err}
 use Rattle.scenario.specs.declared.command.Command.{Command}
+use Rattle.scenario.specs.declared.command.Command.TheVariants as command
 use Rattle.bridge_api.specs.Shown.{Shown}
 use Rattle.network_model.specs.declared.answer.Answer.{Answer}
 use Rattle.spb_network.specs.declared.network.NetworkOf.{NetworkOf}
@@ -20,6 +21,13 @@ pub record Plays (old : State) (c : Command) (answer : Answer) (new : State) : T
   pub accepted : refusal_of old c ≡ None
   pub answer_is : answer ≡ answer_of old c
   pub state : new ≡ next_state old c
+
+-- whether a command is about customer ports
+abbrev pub is_of_customers : Command → Bool
+is_of_customers (command.Attach name port isid mode) = true
+is_of_customers (command.Detach name port) = true
+is_of_customers (command.Frame name port bytes) = true
+is_of_customers c = false
 
 module _ {B : Type 0} (shown : B → Shown) where
   -- what is kept of the conditions of quiet is so

@@ -1,15 +1,17 @@
 //! Customer ports of the bridges of a network: what an accepted `attach`, `detach` or `frame` makes.
-ghost use Rattle.std.specs.Prelude.{◌≡◌, ◌<◌, None, length, OnOk};
+ghost use Rattle.std.specs.Prelude.{◌≡◌, ◌<◌, None, true, length, OnOk};
 ghost use Rattle.spb_world.specs.Attaching as attaching;
 ghost use Rattle.spb_world.specs.Naming as refuse;
 ghost use Rattle.network_model.specs.Play as play;
 ghost use Rattle.network_model.specs.Events as event;
+ghost use Rattle.network_model.specs.Refusing as refusing;
 ghost use Rattle.spb_network.specs.Network.{state_of, AreConfigured};
 ghost use Rattle.network_model.specs.State.{CanAttachAt};
-ghost use Rattle.spb_network.specs.Applying.{IsSoundNetwork};
+ghost use Rattle.spb_network.specs.Applying.{IsSoundNetwork, is_of_customers};
 
 use crate::{NetworkOf, Reason, World, boxes};
 use bridge_api::{Bridge, Outbox};
+use scenario::Command;
 use spb_types::{Attachment, Isid, Mode, Name, NoMemory};
 
 impl<B: Bridge> NetworkOf<B> {
@@ -77,13 +79,7 @@ impl<B: Bridge> NetworkOf<B> {
 
     /// A customer port of a bridge is attached to a service.
     #[tactic(auto, unfolding(spb_world::specs::Naming::named_attach_refusal, network_model::specs::Play::at_bridge))]
-    pub(crate) fn play_attach(
-        &mut self,
-        name: Name,
-        port: u64,
-        isid: u64,
-        mode: Mode,
-    ) -> Result<(), NoMemory>
+    fn play_attach(&mut self, name: Name, port: u64, isid: u64, mode: Mode) -> Result<(), NoMemory>
         requires sound { IsSoundNetwork B.shown self.old }
         requires accepted { refuse.named_attach_refusal self.old.world name port isid ≡ None }
         ensures state { OnOk result (state_of B.shown self.new
@@ -98,7 +94,7 @@ impl<B: Bridge> NetworkOf<B> {
 
     /// A customer port of a bridge is detached.
     #[tactic(auto, unfolding(spb_world::specs::Naming::named_detach_refusal, network_model::specs::Play::at_bridge))]
-    pub(crate) fn play_detach(&mut self, name: Name, port: u64) -> Result<(), NoMemory>
+    fn play_detach(&mut self, name: Name, port: u64) -> Result<(), NoMemory>
         requires sound { IsSoundNetwork B.shown self.old }
         requires accepted { refuse.named_detach_refusal self.old.world name port ≡ None }
         ensures state { OnOk result (state_of B.shown self.new
@@ -113,7 +109,7 @@ impl<B: Bridge> NetworkOf<B> {
 
     /// A customer's frame enters at a customer port of a bridge.
     #[tactic(auto, unfolding(spb_world::specs::Naming::named_entry_refusal, network_model::specs::Play::at_bridge))]
-    pub(crate) fn play_frame(&mut self, name: Name, port: u64, frame: &[u8]) -> Result<(), NoMemory>
+    fn play_frame(&mut self, name: Name, port: u64, frame: &[u8]) -> Result<(), NoMemory>
         requires sound { IsSoundNetwork B.shown self.old }
         requires accepted { refuse.named_entry_refusal self.old.world name port frame.now ≡ None }
         ensures state { OnOk result (state_of B.shown self.new
@@ -123,6 +119,30 @@ impl<B: Bridge> NetworkOf<B> {
         match self.world.bridge_place(name) {
             None => Ok(()),
             Some(place) => self.enter(place, port, frame),
+        }
+    }
+    /// What an `attach`, `detach` or `frame` that isn't refused makes of the network.
+    pub(crate) fn play_customers(&mut self, command: &Command) -> Result<(), NoMemory>
+        requires sound { IsSoundNetwork B.shown self.old }
+        requires accepted { refusing.refusal_of (state_of B.shown self.old) command.now ≡ None }
+        requires customers { is_of_customers command.now ≡ true }
+        ensures state { OnOk result (state_of B.shown self.new ≡ play.played (state_of B.shown self.old) command.now) }
+        ensures made { OnOk result (AreConfigured B.shown self.new.boxes.items) }
+    {
+        match command {
+            Command::Attach {
+                bridge,
+                port,
+                isid,
+                mode,
+            } => self.play_attach(*bridge, *port, *isid, *mode),
+            Command::Detach { bridge, port } => self.play_detach(*bridge, *port),
+            Command::Frame {
+                bridge,
+                port,
+                frame,
+            } => self.play_frame(*bridge, *port, frame.as_slice()),
+            _ => Ok(()),
         }
     }
 }

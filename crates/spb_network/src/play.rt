@@ -316,18 +316,9 @@ impl<B: Bridge> NetworkOf<B> {
                 cost,
             } => self.play_link(*name, *a, *port_a, *b, *port_b, *cost),
             Command::Isid { isid, vid } => self.play_isid(*isid, *vid),
-            Command::Attach {
-                bridge,
-                port,
-                isid,
-                mode,
-            } => self.play_attach(*bridge, *port, *isid, *mode),
-            Command::Detach { bridge, port } => self.play_detach(*bridge, *port),
-            Command::Frame {
-                bridge,
-                port,
-                frame,
-            } => self.play_frame(*bridge, *port, frame.as_slice()),
+            Command::Attach { .. } | Command::Detach { .. } | Command::Frame { .. } => {
+                self.play_customers(command)
+            }
             Command::Metric { link, side, metric } => self.play_metric(*link, *side, *metric),
             Command::Down(name) => self.play_down(*name),
             Command::Up(name) => self.play_up(*name),
