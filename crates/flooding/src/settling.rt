@@ -187,8 +187,8 @@ fn has_old(db: &Database, own: &Own) -> bool
     false
 }
 
-/// For how many seconds no own LSP is to be originated anew for its age: 0 where one has 301 or less left, and where the
-/// system is spent. No number is looked at behind the first without a body.
+/// For how many seconds no own LSP is to be originated anew for its age: 0 where one has 301 or less left, and where
+/// the system is spent. No number is looked at behind the first without a body.
 ///
 /// Each own LSP is current, and the numbers without a body come last.
 pub fn fresh_seconds(db: &Database, own: &Own) -> u16
