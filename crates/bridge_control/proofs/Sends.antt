@@ -1,18 +1,18 @@
 -- What is sent at a port.
-use Rattle.std.proofs.Common.{◌≡◌, ◌≤◌, ◌<◌, ◌+◌, ℕ, zero, suc, Bool, true, false, List, [], ◌∷◌, ◌++◌, map, length, take, get_or, refl, sym, ap, ◌∙◌, subst, Option, Some, None, arith, append_assoc}
+use Rattle.std.proofs.Common.{◌≡◌, ◌≤◌, ◌<◌, ◌+◌, ℕ, zero, suc, Bool, true, false, List, [], ◌∷◌, ◌++◌, map, length, take, get_or, refl, sym, ap, ◌∙◌, subst, Option, Some, None, arith, append_assoc, min, lit≤}
 use Rattle.std.specs.Prelude.{◌==◌, if◌then◌else◌}
 use Rattle.std.specs.List.{AllByRecursion}
 use Rattle.std.specs.FinMap.{entries}
 use Rattle.std.specs.Global.{Vec}
-use Rattle.std.proofs.lemmas.List.{append-nil}
+use Rattle.std.proofs.lemmas.List.{append-nil, nil_from_length}
 use Rattle.spb_types.specs.declared.address.SystemId.{SystemId}
 use Rattle.spb_types.specs.declared.address.LspId.{LspId}
 use Rattle.spb_types.specs.declared.ports.PortSet.{PortSet}
 use Rattle.spb_types.specs.Ports.{has}
 use Rattle.spb_types.proofs.PortLemmas.{has-without_port}
 use Rattle.isis_pdu.specs.Grammar.{IsId}
-use Rattle.isis_pdu.specs.Pdu.{CsnpValue, PsnpValue}
-use Rattle.isis_pdu.specs.Spelling.{lsp_bytes, csnp_bytes, psnp_bytes}
+use Rattle.isis_pdu.specs.Pdu.{CsnpValue}
+use Rattle.isis_pdu.specs.Spelling.{lsp_bytes, csnp_bytes}
 use Rattle.spb_tlvs.specs.declared.entries.SnpEntry.{SnpEntry}
 use Rattle.spb_tlvs.specs.RoundTrip.{IsEntry}
 use Rattle.itag_frames.specs.Frame.{control_bytes}
@@ -25,21 +25,21 @@ use Rattle.flooding.proofs.SendableEntries.{flags_sendable}
 use Rattle.snp_sync.specs.SnpEntries.{snp_entry_of}
 use Rattle.snp_sync.specs.Chunks.{chunks}
 use Rattle.snp_sync.specs.Sized.{IsSized, AreSized, HaveIds, IsLspId, IsSizedEntry}
-use Rattle.snp_sync.specs.Sending.{CsnpChunk, bytes_in, csnp_for, psnp_for, csnp_chunks, csnps_of, psnp_chunks, psnps_of, ssn_cleared, all_ssn_cleared}
-use Rattle.snp_sync.proofs.Cuts.{chunks_none}
+use Rattle.snp_sync.specs.Sending.{CsnpChunk, bytes_in, csnp_for, psnp_for, csnp_chunks, csnps_of, ssn_cleared, all_ssn_cleared}
+use Rattle.snp_sync.proofs.Cuts.{chunks_none, chunks_cut}
 use Rattle.snp_sync.proofs.Fields.{flags_keep_sized}
-use Rattle.snp_sync.proofs.Ranges.{csnp_chunks_are_short, csnp_chunks_end_at_ids, psnp_chunks_are_short}
-use Rattle.snp_sync.proofs.Said.{csnp_entries_are_sized, psnp_entries_are_sized}
+use Rattle.snp_sync.proofs.Ranges.{csnp_chunks_are_short, csnp_chunks_end_at_ids}
+use Rattle.snp_sync.proofs.Said.{csnp_entries_are_sized}
 use Rattle.snp_sync.proofs.Silent.{none_cleared}
 use Rattle.snp_sync.proofs.Stays.{all_each}
 use Rattle.bridge_api.specs.declared.port.BridgePort.{BridgePort}
 use Rattle.bridge_api.specs.declared.outbox.Outbox.{Outbox}
 use Rattle.bridge_api.specs.View.{is_port_up}
-use Rattle.bridge_api.specs.Step.{with_wire}
+use Rattle.bridge_api.specs.Step.{with_wire, Gains}
 use Rattle.bridge_api.specs.Ticking.{hello_frame, lsp_frame, csnp_frame, psnp_frame, hellos_at, summaries_at, lsps_at, requests_at, synced_at, sent_at, sent_from, after_sending_at, after_sending_from}
-use Rattle.bridge_control.proofs.Wire.{ports_next, after_sending_next}
-use Rattle.bridge_api.proofs.Spelled.{lsp_short, csnp_short, psnp_short, chunk_short}
-use Rattle.bridge_control.specs.Frames.{hello_sent, frames_of, flagged_at}
+use Rattle.bridge_control.proofs.Wire.{ports_next, after_sending_next, sent_none, sent_both, sent_as, gained_first}
+use Rattle.bridge_api.proofs.Spelled.{lsp_short, csnp_short, chunk_short}
+use Rattle.bridge_control.specs.Frames.{hello_sent, frames_of, psnps_sent, flagged_at}
 use Rattle.bridge_control.specs.Machine.{kept_hello}
 use Rattle.bridge_control.specs.Made.{AreMadeOf}
 use Rattle.bridge_control.proofs.Copies.{after_sending_frames}
@@ -64,13 +64,6 @@ csnps_fit me (chunk ∷ csnp_chunks) six short ends sized =
 have_ids : (db : Lsps) → AreSized db → HaveIds db
 have_ids db sized = λ id e held. (sized id e held).named
 
-psnps_fit : (me : SystemId) (ps : List (List SnpEntry)) → IsId me → AllByRecursion (λ chunk. (1 ≤ length chunk) × (length chunk ≤ 90)) ps → AllByRecursion (AllByRecursion IsSizedEntry) ps
-    → AllByRecursion (λ b. length b ≤ 1497) (map psnp_bytes (map (psnp_for me) ps))
-psnps_fit me [] six short sized = tt
-psnps_fit me (chunk ∷ ps) six short sized =
-    let size = psnp_short (psnp_for me chunk) six in
-    (omega (arith, size, chunk_short chunk (sized_entries chunk sized.0) short.0.1), psnps_fit me ps six short.1 sized.1)
-
 fit_bytes : (pdus : List (Vec ℕ)) → AllByRecursion (λ b. length b ≤ 1497) (bytes_in pdus) → AllByRecursion (λ pdu. length pdu.items ≤ 1497) pdus
 fit_bytes [] all = tt
 fit_bytes (pdu ∷ pdus) all = (all.0, fit_bytes pdus all.1)
@@ -79,10 +72,6 @@ pub fitting_csnps : (me : SystemId) (db : Lsps) (pdus got : List (Vec ℕ)) → 
 fitting_csnps me db pdus got six sized same is =
     fit_bytes got (subst (AllByRecursion (λ (b : List ℕ). length b ≤ 1497)) (sym (ap bytes_in same ∙ is))
     (csnps_fit me (csnp_chunks db) six (csnp_chunks_are_short db) (csnp_chunks_end_at_ids db (have_ids db sized)) (csnp_entries_are_sized db sized)))
-
-pub fitting_psnps : (me : SystemId) (p : ℕ) (db : Lsps) (pdus got : List (Vec ℕ)) → IsId me → AreSized db → got ≡ pdus → bytes_in pdus ≡ map psnp_bytes (psnps_of me p db) → AllByRecursion (λ pdu. length pdu.items ≤ 1497) got
-fitting_psnps me p db pdus got six sized same is =
-    fit_bytes got (subst (AllByRecursion (λ (b : List ℕ). length b ≤ 1497)) (sym (ap bytes_in same ∙ is)) (psnps_fit me (psnp_chunks p db) six (psnp_chunks_are_short p db) (psnp_entries_are_sized p db sized)))
 
 pub fits_at : (pdus : List (Vec ℕ)) (i : ℕ) (d : Vec ℕ) → AllByRecursion (λ pdu. length pdu.items ≤ 1497) pdus → i < length pdus → length (get_or pdus i d).items ≤ 1497
 fits_at [] i d all within = absurd (omega arith)
@@ -96,11 +85,6 @@ unfolding csnp_frame
 csnps_framed me p [] = refl
 csnps_framed me p (c ∷ cs) = ap (λ (fs : List (ℕ × List ℕ)). (p, control_bytes me.mac (csnp_bytes c)) ∷ fs) (csnps_framed me p cs)
 
-psnps_framed : (me : SystemId) (p : ℕ) (ss : List PsnpValue) → frames_of me p (map psnp_bytes ss) ≡ map (λ s. (p, psnp_frame me s)) ss
-unfolding psnp_frame
-psnps_framed me p [] = refl
-psnps_framed me p (s ∷ ss) = ap (λ (fs : List (ℕ × List ℕ)). (p, control_bytes me.mac (psnp_bytes s)) ∷ fs) (psnps_framed me p ss)
-
 pub summaries_are : (me : SystemId) (p : ℕ) (port : BridgePort) (db : Lsps) (pdus got : List (Vec ℕ)) → port.csnp_due ≡ true → got ≡ pdus → bytes_in pdus ≡ map csnp_bytes (csnps_of me db) → frames_of me p (bytes_in got) ≡ summaries_at me p port db
 summaries_are me p port db pdus got due same is =
     ap (λ (bs : List (List ℕ)). frames_of me p bs) (ap bytes_in same ∙ is)
@@ -109,8 +93,46 @@ summaries_are me p port db pdus got due same is =
 pub no_summaries : (me : SystemId) (p : ℕ) (port : BridgePort) (db : Lsps) → port.csnp_due ≡ false → [] ≡ summaries_at me p port db
 no_summaries me p port db due = ap (λ (b : Bool). if b then map (λ c. (p, csnp_frame me c)) (csnps_of me db) else []) (sym due)
 
-pub requests_are : (me : SystemId) (p : ℕ) (db : Lsps) (pdus got : List (Vec ℕ)) → got ≡ pdus → bytes_in pdus ≡ map psnp_bytes (psnps_of me p db) → frames_of me p (bytes_in got) ≡ requests_at me p db
-requests_are me p db pdus got same is = ap (λ (bs : List (List ℕ)). frames_of me p bs) (ap bytes_in same ∙ is) ∙ psnps_framed me p (psnps_of me p db)
+-- the PSNPs so far, of entries of which the rest is still to come
+pub record Requested (me : SystemId) (p : ℕ) (entries rest : List SnpEntry) (o now : Outbox) : Type 0 where
+  frames : List (ℕ × List ℕ)
+  sent : now ≡ with_wire frames o
+  all : frames ++ psnps_sent me p (chunks 90 rest) ≡ psnps_sent me p (chunks 90 entries)
+
+pub requested_none : (me : SystemId) (p : ℕ) (entries rest : List SnpEntry) (o : Outbox) → rest ≡ entries
+    → Requested me p entries rest o o
+requested_none me p entries rest o is = record {
+  frames = [];
+  sent = sent_none o;
+  all = ap (λ (es : List SnpEntry). psnps_sent me p (chunks 90 es)) is;
+}
+
+pub requested_more : (me : SystemId) (p : ℕ) (entries old chunk rest : List SnpEntry) (o mid new : Outbox)
+    → Requested me p entries old o mid → old ≡ chunk ++ rest → length chunk ≡ min 90 (length old) → 1 ≤ length old
+    → new ≡ with_wire ((p, psnp_frame me (psnp_for me chunk)) ∷ []) mid → Requested me p entries rest o new
+requested_more me p entries old chunk rest o mid new so_far is size full sent =
+    let frame : List (ℕ × List ℕ) = (p, psnp_frame me (psnp_for me chunk)) ∷ [] in
+    record {
+      frames = so_far.frames ++ frame;
+      sent = sent_both so_far.frames frame o mid new so_far.sent sent;
+      all = append_assoc so_far.frames frame (psnps_sent me p (chunks 90 rest))
+          ∙ (ap (λ (ps : List (List SnpEntry)). so_far.frames ++ psnps_sent me p ps) (sym (chunks_cut 90 old chunk rest (lit≤ tt) is size full))
+          ∙ so_far.all);
+    }
+
+pub requested_some : (me : SystemId) (p : ℕ) (entries rest : List SnpEntry) (o mid new : Outbox)
+    → Requested me p entries rest o mid → new ≡ mid → Gains (psnps_sent me p (chunks 90 entries)) o new
+requested_some me p entries rest o mid new so_far kept =
+    gained_first so_far.frames (psnps_sent me p (chunks 90 rest)) _ o new (sym so_far.all) (kept ∙ so_far.sent)
+
+pub requested_all : (me : SystemId) (p : ℕ) (entries rest : List SnpEntry) (o new : Outbox)
+    → Requested me p entries rest o new → length rest ≡ 0 → new ≡ with_wire (psnps_sent me p (chunks 90 entries)) o
+requested_all me p entries rest o new so_far none =
+    let nothing : psnps_sent me p (chunks 90 rest) ≡ [] =
+    ap (λ (es : List SnpEntry). psnps_sent me p (chunks 90 es)) (nil_from_length rest none) ∙ ap (psnps_sent me p) (chunks_none 90) in
+    sent_as so_far.frames _ o new
+    (sym (append-nil so_far.frames) ∙ (ap (λ (fs : List (ℕ × List ℕ)). so_far.frames ++ fs) (sym nothing) ∙ so_far.all))
+    so_far.sent
 
 -- ---- where no flags stand
 

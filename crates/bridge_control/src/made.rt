@@ -1,5 +1,5 @@
-//! The frames of the LSPs that are to be sent, made once in a second and shared by the ports.
-ghost use Rattle.std.specs.Prelude.{◌≡◌, slice_get, IfOk};
+//! The frames of the LSPs that are to be sent, made once in a second and shared by the ports, and those of PSNPs.
+ghost use Rattle.std.specs.Prelude.{◌≡◌, ◌≤◌, length, slice_get, IfOk};
 ghost use Rattle.std.specs.Option.{option_copied};
 ghost use Rattle.std.specs.FinMap.{entries};
 ghost use Rattle.isis_pdu.specs.declared.kind.Kind.TheVariants as kinds;
@@ -11,6 +11,7 @@ ghost use Rattle.flooding.specs.Entries.{AreSendable};
 ghost use Rattle.flooding.specs.Own.{tlvs_of_body};
 ghost use Rattle.flooding.specs.Sending.{lsp_in};
 ghost use Rattle.snp_sync.specs.Sized.{AreSized};
+ghost use Rattle.snp_sync.specs.Sending.{psnp_for};
 ghost use Rattle.bridge_api.specs.Ticking as api;
 ghost use Rattle.bridge_control.specs.Made.{IsMadeOf, IsMadeAt, AreMadeOf};
 
@@ -19,6 +20,8 @@ use isis_pdu::{append_lsp, lsp_length};
 use itag_frames::control_head;
 use lsdb::{Database, Held};
 use shared_frames::Frame;
+use snp_sync::{append_psnp, psnp_length};
+use spb_tlvs::SnpEntry;
 use spb_types::{NoMemory, PortSet, SystemId};
 use std::alloc::Global;
 
@@ -88,5 +91,19 @@ fn lsp_frame(alloc: Global, system: SystemId, held: &Held) -> Result<Frame, NoMe
     let lsp = lsp_of(held);
     let mut frame = control_head(alloc, system.mac, lsp_length(&lsp))?;
     append_lsp(&mut frame, &lsp)?;
+    Frame::from_vec(frame)
+}
+
+/// The PSNP of at most 90 entries, as a control frame, into which it is written at once.
+pub(crate) fn psnp_frame(
+    alloc: Global,
+    system: SystemId,
+    entries: &[SnpEntry],
+) -> Result<Frame, NoMemory>
+    requires { length entries.now ≤ 90 }
+    ensures { IfOk result (λ frame. frame ≡ api.psnp_frame system (psnp_for system entries.now)) }
+{
+    let mut frame = control_head(alloc, system.mac, psnp_length(entries))?;
+    append_psnp(&mut frame, system, entries)?;
     Frame::from_vec(frame)
 }

@@ -9,23 +9,25 @@ ghost use Rattle.lsdb.specs.Entry.{Entry};
 ghost use Rattle.lsdb.specs.Database.{any_flags, is_srm_at, is_ssn_at, AreFlagsAt};
 ghost use Rattle.flooding.specs.Entries.{AreSendable};
 ghost use Rattle.snp_sync.specs.Sized.{AreSized};
-ghost use Rattle.snp_sync.specs.Sending.{bytes_in, all_ssn_cleared};
+ghost use Rattle.snp_sync.specs.Chunks.{chunks};
+ghost use Rattle.snp_sync.specs.Sending.{bytes_in, psnp_for, all_ssn_cleared};
 ghost use Rattle.itag_frames.specs.Frame.{control_bytes};
 ghost use Rattle.bridge_api.specs.View.{is_port_up};
 ghost use Rattle.bridge_api.specs.Step.{with_wire, Gains};
 ghost use Rattle.bridge_api.specs.Ticking as api;
-ghost use Rattle.bridge_control.specs.Frames.{frames_of, frames_held, flagged_at};
+ghost use Rattle.bridge_control.specs.Frames.{frames_of, psnps_sent, frames_held, flagged_at};
 ghost use Rattle.bridge_control.specs.Made.{IsMadeAt, AreMadeOf};
 ghost use Rattle.bridge_control.specs.Machine.{kept_hello, hellos_from};
 
 use crate::hello::send_hello;
-use crate::made::{frame_of, frames_to_send};
+use crate::made::{frame_of, frames_to_send, psnp_frame};
 use crate::ports::is_up;
 use bridge_api::{BridgePort, Outbox};
 use itag_frames::control_frame;
 use lsdb::Database;
 use shared_frames::Frame;
-use snp_sync::{csnps, psnps_within};
+use snp_sync::{ENTRIES_PER_PDU, csnps, requests_within};
+use spb_tlvs::SnpEntry;
 use spb_types::{NoMemory, PortSet, SystemId};
 use std::alloc::Global;
 
@@ -289,8 +291,41 @@ fn send_requests(
     if !flags.ssn.has(number) {
         return Ok(());
     }
-    let pdus = psnps_within(alloc, db, system, number, flags.places)?;
-    send_pdus(alloc, system, number, pdus.as_slice(), outbox)
+    let entries = requests_within(alloc, db, number, flags.places)?;
+    send_psnps(alloc, system, number, entries.as_slice(), outbox)
+}
+
+/// Puts the PSNPs of entries, at most 90 in each, into the outbox.
+fn send_psnps(
+    alloc: Global,
+    system: SystemId,
+    number: u8,
+    entries: &[SnpEntry],
+    outbox: &mut Outbox,
+) -> Result<(), NoMemory>
+    ensures sent { OnOk result (outbox.new ≡ with_wire (psnps_sent system number (chunks 90 entries.now)) outbox.old) }
+    ensures gained { OnErr result (Gains (psnps_sent system number (chunks 90 entries.now)) outbox.old outbox.new) }
+{
+    'send: for chunk in entries.chunks(ENTRIES_PER_PDU) {
+        send_psnp(alloc, system, number, chunk, outbox)?;
+    }
+    Ok(())
+}
+
+/// Puts the PSNP of at most 90 entries into the outbox.
+fn send_psnp(
+    alloc: Global,
+    system: SystemId,
+    number: u8,
+    entries: &[SnpEntry],
+    outbox: &mut Outbox,
+) -> Result<(), NoMemory>
+    requires { length entries.now ≤ 90 }
+    ensures sent { OnOk result (outbox.new ≡ with_wire ((number, api.psnp_frame system (psnp_for system entries.now)) ∷ []) outbox.old) }
+    ensures kept { OnErr result (outbox.new ≡ outbox.old) }
+{
+    let frame = psnp_frame(alloc, system, entries)?;
+    send_frame(number, frame, outbox)
 }
 
 /// Puts the LSPs that are to be sent at a port into the outbox, in order of id.

@@ -12,7 +12,9 @@ pub use laws::{
 };
 pub use pdu::{Csnp, Hello, Lsp, Pdu, PduError, Psnp};
 pub use reading::decode;
-pub use writing::{append_lsp, lsp_length, write_csnp, write_hello, write_lsp, write_psnp};
+pub use writing::{
+    append_lsp, append_psnp_head, lsp_length, write_csnp, write_hello, write_lsp, write_psnp,
+};
 
 mod checksum;
 mod kind;

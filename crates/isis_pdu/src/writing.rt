@@ -1,5 +1,5 @@
 //! PDUs written as bytes.
-ghost use Rattle.std.specs.Prelude.{◌≡◌, ◌+◌, ◌≤◌, ◌++◌, ◌∷◌, [], length, IfOk, OnOk};
+ghost use Rattle.std.specs.Prelude.{◌≡◌, ◌+◌, ◌≤◌, ◌++◌, ◌∷◌, [], ℕ, List, length, IfOk, OnOk};
 ghost use Rattle.isis_pdu.specs.declared.kind.Kind.TheVariants as kinds;
 ghost use Rattle.spb_types.specs.Bytes.{lsp_id_bytes};
 ghost use Rattle.isis_pdu.specs.Bytes.{u16_bytes, u32_bytes};
@@ -175,9 +175,52 @@ pub fn write_psnp(alloc: Global, psnp: &Psnp<'_>) -> Result<Vec<u8>, NoMemory>
     requires { CanWrite kinds.Psnp psnp.now.tlvs.now }
     ensures { IfOk result (λ out. out.items ≡ psnp_bytes (psnp_of psnp.now)) }
 {
-    let mut out = with_header(alloc, Kind::Psnp, psnp.tlvs)?;
-    put_length(&mut out, Kind::Psnp, psnp.tlvs)?;
-    put_source(&mut out, &psnp.source)?;
+    let len = usize::from(Kind::Psnp.fixed_length()) + psnp.tlvs.len();
+    let mut out = Vec::with_capacity(alloc, len)?;
+    append_psnp_head(&mut out, &psnp.source, psnp.tlvs.len())?;
     out.extend_from_slice(psnp.tlvs)?;
     Ok(out)
+}
+
+/// All of a PSNP of `len` bytes that stands before its TLVs.
+fn psnp_head(source: SystemId, len: u16) -> [u8; 17]
+    ensures { result ≡ spelling.common_header zeros kinds.Psnp ++ u16_bytes len ++ source_bytes zeros source }
+{
+    let [a, b, c, d, e, f] = source.mac.bytes;
+    [
+        0x83,
+        17,
+        1,
+        0,
+        26,
+        1,
+        0,
+        0,
+        (len / 256) as u8,
+        (len % 256) as u8,
+        a,
+        b,
+        c,
+        d,
+        e,
+        f,
+        0,
+    ]
+}
+
+/// Writes all of a PSNP that stands before its TLVs, behind other bytes (ISO/IEC 10589, 9.12). Its TLVs, of `tlvs_len`
+/// bytes in all, are written behind it; the PDU has at most 1,497 bytes. Where the vector has room for 17 bytes, no
+/// memory is taken.
+pub fn append_psnp_head(
+    out: &mut Vec<u8>,
+    source: &SystemId,
+    tlvs_len: usize,
+) -> Result<(), NoMemory>
+    requires { fixed_length kinds.Psnp + tlvs_len ≤ 1497 }
+    ensures { OnOk result ((tlvs : List ℕ) → length tlvs ≡ tlvs_len
+        → out.new.items ++ tlvs ≡ out.old.items ++ psnp_bytes (record { source = source.now; tlvs = tlvs })) }
+{
+    let len = usize::from(Kind::Psnp.fixed_length()) + tlvs_len;
+    out.extend_from_slice(&psnp_head(*source, len as u16))?;
+    Ok(())
 }

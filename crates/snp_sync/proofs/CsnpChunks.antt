@@ -13,9 +13,9 @@ use Rattle.isis_pdu.specs.Header.{fixed_length}
 use Rattle.isis_pdu.specs.Spelling.{CanWrite, csnp_bytes, psnp_bytes}
 use Rattle.isis_pdu.specs.Tlvs.{is_whole}
 use Rattle.snp_sync.specs.Ids.{successor, first_id, last_id}
-use Rattle.snp_sync.specs.Chunks.{chunks, entry_tlvs, chunks_or_one}
+use Rattle.snp_sync.specs.Chunks.{chunks, entry_tlvs, tlvs_length, chunks_or_one}
 use Rattle.snp_sync.specs.Sending.{CsnpChunk, bytes_in, csnp_for, psnp_for, end_of, csnp_chunks_from}
-use Rattle.snp_sync.proofs.Cuts.{chunks_first, chunks_none, chunks_cut, tlvs_whole}
+use Rattle.snp_sync.proofs.Cuts.{chunks_first, chunks_none, chunks_cut, tlvs_whole, tlvs_short}
 
 -- ---- the chunks of CSNPs
 
@@ -74,10 +74,10 @@ fixed_le kinds.Csnp = lit≤ tt
 fixed_le kinds.Psnp = lit≤ tt
 
 -- the TLVs of a chunk can be written
-pub can_write : (kind : Kind) (entries : List SnpEntry) (tlvs bytes : List ℕ) → bytes ≡ tlvs → tlvs ≡ entry_tlvs entries → 15 * length tlvs ≤ 242 * length entries + 28 → length entries ≤ 90 → CanWrite kind bytes
+pub can_write : (kind : Kind) (entries : List SnpEntry) (tlvs bytes : List ℕ) → bytes ≡ tlvs → tlvs ≡ entry_tlvs entries → length tlvs ≡ tlvs_length (length entries) → length entries ≤ 90 → CanWrite kind bytes
 can_write kind entries tlvs bytes same is size few =
     let len : length bytes ≡ length tlvs = ap length same in
-    record { whole = ap is_whole (same ∙ is) ∙ tlvs_whole entries; short = omega (arith, fixed_le kind) }
+    record { whole = ap is_whole (same ∙ is) ∙ tlvs_whole entries; short = omega (arith, fixed_le kind, size, len, tlvs_short (length entries) few) }
 
 -- PDUs made of what is left, which a function gives, and of what is left after one more of them
 pushed : {A : Type 0} (f : A → List ℕ) (pdus new : List (Vec ℕ)) (pdu : Vec ℕ) (x : A) (old rest all : List A) → bytes_in pdus ++ map f old ≡ map f all → old ≡ x ∷ rest → pdu.items ≡ f x → new ≡ pdus ++ pdu ∷ [] → bytes_in new ++ map f rest ≡ map f all

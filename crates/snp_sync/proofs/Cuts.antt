@@ -10,7 +10,7 @@ use Rattle.spb_tlvs.specs.Tlv.{tlv}
 use Rattle.spb_tlvs.specs.Entry.{entries_value}
 use Rattle.isis_pdu.specs.Tlvs.{is_whole, is_whole_after}
 use Rattle.isis_pdu.proofs.FormatLaws.{whole_one, whole_both}
-use Rattle.snp_sync.specs.Chunks.{chunks_within, chunks, entry_tlvs}
+use Rattle.snp_sync.specs.Chunks.{chunks_within, chunks, entry_tlvs, tlvs_length}
 
 -- how many chunks there may be says nothing, if they are enough
 chunks_enough : {A : Type 0} (most : ℕ) (n k : ℕ) (xs : List A) → 1 ≤ n → length xs ≤ most → length xs ≤ k → chunks_within most n xs ≡ chunks_within k n xs
@@ -70,38 +70,41 @@ pub tlvs_whole : (entries : List SnpEntry) → IsTrue (is_whole (entry_tlvs entr
 unfolding entry_tlvs
 tlvs_whole entries = whole_all (chunks 15 entries)
 
--- how long they are: 2 bytes and 16 for each entry in a TLV, and all TLVs but the last are full
-record Sized (all left len : ℕ) : Type 0 where
-  pub more : 1 ≤ left → 15 * len + 242 * left ≤ 242 * all
-  pub last : 15 * len + 242 * left ≤ 242 * all + 28
+-- how long they are
+pub tlvs_length_more : (left chunk rest : ℕ) → left ≡ chunk + rest → chunk ≡ min 15 left → 1 ≤ left
+    → tlvs_length left ≡ (2 + 16 * chunk) + tlvs_length rest
+tlvs_length_more left chunk rest is size full = omega arith
 
-sized_none : (all len : ℕ) → len ≡ 0 → Sized all all len
-sized_none all len e = record { more = λ some. omega arith; last = omega arith }
+pub tlvs_short : (n : ℕ) → n ≤ 90 → tlvs_length n ≤ 1452
+tlvs_short n few = omega arith
 
-sized_more : (all left len chunk rest new : ℕ) → Sized all left len → left ≡ chunk + rest → chunk ≡ min 15 left → 1 ≤ left → new ≡ len + (2 + 16 * chunk) → Sized all rest new
-sized_more all left len chunk rest new sized is size full e =
-    let h = sized.more full in record { more = λ some. omega arith; last = omega arith }
+-- the TLVs so far, behind other bytes, of entries of which the rest is still to come
+pub record Written (before : List ℕ) (entries rest : List SnpEntry) (now : List ℕ) : Type 0 where
+  bytes : now ++ entry_tlvs rest ≡ before ++ entry_tlvs entries
+  sized : length now + tlvs_length (length rest) ≡ length before + tlvs_length (length entries)
 
--- the TLVs so far, of entries of which the rest is still to come
-pub record Written (entries rest : List SnpEntry) (tlvs : List ℕ) : Type 0 where
-  bytes : tlvs ++ entry_tlvs rest ≡ entry_tlvs entries
-  sized : Sized (length entries) (length rest) (length tlvs)
+pub written_none : (before : List ℕ) (entries rest : List SnpEntry) → rest ≡ entries → Written before entries rest before
+written_none before entries rest is = record { bytes = rw is refl; sized = rw is refl }
 
-pub written_none : (entries rest : List SnpEntry) (tlvs : List ℕ) → tlvs ≡ [] → rest ≡ entries → Written entries rest tlvs
-written_none entries rest tlvs none is = record {
-  bytes = rw (none, is) refl;
-  sized = rw is (sized_none (length entries) (length tlvs) (ap length none));
+pub written_more : (before : List ℕ) (entries old chunk rest : List SnpEntry) (now new : List ℕ)
+    → Written before entries old now → old ≡ chunk ++ rest → length chunk ≡ min 15 (length old) → 1 ≤ length old
+    → length (entries_value chunk) ≡ 16 * length chunk → new ≡ now ++ tlv 9 (entries_value chunk)
+    → Written before entries rest new
+written_more before entries old chunk rest now new so_far is size full len e = record {
+  bytes = ap (λ (b : List ℕ). b ++ entry_tlvs rest) e ∙ append_assoc now (tlv 9 (entries_value chunk)) (entry_tlvs rest)
+      ∙ ap (λ (b : List ℕ). now ++ b) (sym (tlvs_first old chunk rest is size full)) ∙ so_far.bytes;
+  sized =
+      let more = tlvs_length_more (length old) (length chunk) (length rest) (ap length is ∙ length-append chunk rest) size full in
+      let longer : length new ≡ length now + (2 + 16 * length chunk) = ap length e ∙ length-append now (tlv 9 (entries_value chunk))
+      ∙ ap (λ n. length now + suc (suc n)) len ∙ omega arith in
+      omega (arith, so_far.sized, more, longer);
 }
 
-pub written_more : (entries old chunk rest : List SnpEntry) (tlvs new : List ℕ) → Written entries old tlvs → old ≡ chunk ++ rest → length chunk ≡ min 15 (length old) → 1 ≤ length old → length (entries_value chunk) ≡ 16 * length chunk → new ≡ tlvs ++ tlv 9 (entries_value chunk) → Written entries rest new
-written_more entries old chunk rest tlvs new so_far is size full len e = record {
-  bytes = ap (λ (b : List ℕ). b ++ entry_tlvs rest) e ∙ append_assoc tlvs (tlv 9 (entries_value chunk)) (entry_tlvs rest)
-      ∙ ap (λ (b : List ℕ). tlvs ++ b) (sym (tlvs_first old chunk rest is size full)) ∙ so_far.bytes;
-  sized = sized_more (length entries) (length old) (length tlvs) (length chunk) (length rest) (length new) so_far.sized (ap length is ∙ length-append chunk rest) size full (ap length e ∙ length-append tlvs (tlv 9 (entries_value chunk)) ∙ ap (λ n. length tlvs + suc (suc n)) len ∙ omega arith);
-}
-
-pub written_all : (entries rest : List SnpEntry) (tlvs : List ℕ) → Written entries rest tlvs → length rest ≡ 0 → (tlvs ≡ entry_tlvs entries) × (15 * length tlvs ≤ 242 * length entries + 28)
-written_all entries rest tlvs so_far none =
+pub written_all : (before : List ℕ) (entries rest : List SnpEntry) (now : List ℕ) → Written before entries rest now
+    → length rest ≡ 0
+    → (now ≡ before ++ entry_tlvs entries) × (length (entry_tlvs entries) ≡ tlvs_length (length entries))
+written_all before entries rest now so_far none =
     let no_rest : rest ≡ [] = nil_from_length rest none in
-    let h = so_far.sized.last in
-    (sym (append-nil tlvs) ∙ ap (λ (b : List ℕ). tlvs ++ b) (sym (ap entry_tlvs no_rest ∙ tlvs_none)) ∙ so_far.bytes, omega arith)
+    let all : now ≡ before ++ entry_tlvs entries = sym (append-nil now) ∙ ap (λ (b : List ℕ). now ++ b) (sym (ap entry_tlvs no_rest ∙ tlvs_none)) ∙ so_far.bytes in
+    let ended : tlvs_length (length rest) ≡ 0 = ap tlvs_length none in
+    (all, omega (arith, so_far.sized, ended, ap length all ∙ length-append before (entry_tlvs entries)))

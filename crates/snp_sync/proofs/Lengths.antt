@@ -1,15 +1,19 @@
--- How long the TLVs of entries are.
+-- How long the TLVs of entries are, and PSNPs.
 use Rattle.std.proofs.Common.{◌≡◌, inl, inr, ◌≤◌, ◌+◌, ◌-◌, ◌*◌, ℕ, zero, suc, List, [], ◌∷◌, ◌++◌, length, min, take, drop, sym, ap, ◌∙◌, subst, arith, length-append}
 use Rattle.std.specs.List.{AllByRecursion}
 use Rattle.std.proofs.lemmas.List.{take-append-drop, length-take, length-drop, nil_from_length}
 use Rattle.std.proofs.lemmas.Bool.{cases_lt}
+use Rattle.spb_types.specs.declared.address.SystemId.{SystemId}
 use Rattle.spb_tlvs.specs.declared.entries.SnpEntry.{SnpEntry}
 use Rattle.spb_tlvs.specs.RoundTrip.{IsEntry}
 use Rattle.spb_tlvs.specs.Entry.{entry_bytes, entries_value}
 use Rattle.spb_tlvs.specs.Tlv.{tlv}
 use Rattle.spb_tlvs.proofs.EntryLaws.{entry_len}
 use Rattle.spb_tlvs.proofs.Numbers.{length_of_joined, weaker}
-use Rattle.snp_sync.specs.Chunks.{entry_tlvs}
+use Rattle.isis_pdu.specs.Grammar.{IsId}
+use Rattle.isis_pdu.specs.Spelling.{psnp_bytes}
+use Rattle.snp_sync.specs.Chunks.{entry_tlvs, tlvs_length}
+use Rattle.snp_sync.specs.Sending.{psnp_for, psnp_length}
 use Rattle.snp_sync.proofs.Cuts.{tlvs_none, tlvs_first}
 use Rattle.snp_sync.proofs.Said.{all_both}
 
@@ -43,3 +47,9 @@ within (suc n) (x ∷ xs) few all =
 
 pub entries_within : (entries : List SnpEntry) → AllByRecursion IsEntry entries → 15 * length (entry_tlvs entries) ≤ 242 * length entries + 28
 entries_within entries all = within (length entries) entries (omega arith) all
+
+pub psnp_sized : (me : SystemId) (entries : List SnpEntry) → IsId me
+    → length (entry_tlvs entries) ≡ tlvs_length (length entries)
+    → length (psnp_bytes (psnp_for me entries)) ≡ psnp_length (length entries)
+unfolding psnp_bytes
+psnp_sized me entries six sized = simp length-append (omega (arith, six, sized))

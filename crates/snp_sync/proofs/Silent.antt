@@ -1,28 +1,18 @@
--- A port at which nothing is to be acknowledged or asked for: there is no PSNP, and nothing to clear.
+-- A port at which nothing is to be acknowledged or asked for: there is nothing to clear.
 use Rattle.std.specs.Prelude.{◌≡◌, ℕ, Bool, true, false, List, [], ◌∷◌, map, filter, length, if◌then◌else◌}
 use Rattle.std.proofs.Common.{refl, sym, ap, ◌∙◌, subst, arith}
 use Rattle.std.specs.Prelude.{T}
 use Rattle.std.specs.FinMap.{is_sorted, entries, entries_sorted, from_sorted, entries-from_sorted, same_entries_map}
 use Rattle.spb_types.specs.declared.address.LspId.{LspId}
-use Rattle.spb_types.specs.declared.address.SystemId.{SystemId}
 use Rattle.spb_types.specs.Ports.{has}
-use Rattle.isis_pdu.specs.Spelling.{psnp_bytes}
-use Rattle.spb_tlvs.specs.declared.entries.SnpEntry.{SnpEntry}
 use Rattle.lsdb.specs.Entry.{Entry, with_ssn}
 use Rattle.lsdb.specs.Database.{Lsps, id_cmp, each}
 use Rattle.snp_sync.specs.SnpEntries.{snp_entry_of, snp_entries_where, has_ssn_at}
-use Rattle.snp_sync.specs.Chunks.{chunks}
-use Rattle.snp_sync.specs.Sending.{psnp_for, psnps_of, ssn_cleared, all_ssn_cleared}
-use Rattle.snp_sync.proofs.Cuts.{chunks_none}
+use Rattle.snp_sync.specs.Sending.{ssn_cleared, all_ssn_cleared}
 
 pub nil_from : {A : Type 0} (xs : List A) → length xs ≡ 0 → xs ≡ []
 nil_from [] e = refl
 nil_from (x ∷ xs) e = absurd (omega arith)
-
-pub no_psnps : (me : SystemId) (port : ℕ) (db : Lsps) → snp_entries_where (has_ssn_at port) db ≡ [] → map psnp_bytes (psnps_of me port db) ≡ []
-no_psnps me port db none =
-    ap (λ (es : List SnpEntry). map psnp_bytes (map (psnp_for me) (chunks 90 es))) none
-    ∙ ap (λ (list : List (List SnpEntry)). map psnp_bytes (map (psnp_for me) list)) (chunks_none 90)
 
 same_pairs : (port : ℕ) (es : List (LspId × Entry)) → map (λ e. snp_entry_of e.0 e.1) (filter (λ e. has_ssn_at port e.1) es) ≡ [] → map (λ (e : LspId × Entry). (e.0, ssn_cleared port e.1)) es ≡ es
 same_pairs port [] none = refl

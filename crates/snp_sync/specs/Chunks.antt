@@ -1,5 +1,5 @@
 -- Lists cut into chunks.
-use Rattle.std.specs.Prelude.{ℕ, zero, suc, List, [], ◌∷◌, length, take, drop}
+use Rattle.std.specs.Prelude.{ℕ, zero, suc, ◌+◌, ◌*◌, ◌/◌, List, [], ◌∷◌, length, take, drop}
 use Rattle.std.specs.List.{flat_map}
 use Rattle.spb_tlvs.specs.declared.entries.SnpEntry.{SnpEntry}
 use Rattle.spb_tlvs.specs.Tlv.{tlv}
@@ -18,6 +18,10 @@ chunks n xs = chunks_within (length xs) n xs
 -- the TLVs 9 of entries: 15 entries in each, the last with the rest
 unfoldable pub entry_tlvs : List SnpEntry → List ℕ
 entry_tlvs entries = flat_map (λ chunk. tlv 9 (entries_value chunk)) (chunks 15 entries)
+
+-- how many bytes the TLVs of so many entries of 16 bytes have: those of the entries, and 2 for each TLV
+abbrev pub tlvs_length : ℕ → ℕ
+tlvs_length n = 2 * ((n + 14) / 15) + 16 * n
 
 -- the chunks of a list; of the empty list one chunk, which is empty
 abbrev pub chunks_or_one : {A : Type 0} → ℕ → List A → List (List A)

@@ -1,15 +1,17 @@
 -- The sequence numbers PDUs that a bridge sends (ISO/IEC 10589, 7.3.15.3 and 7.3.15.4).
-use Rattle.std.specs.Prelude.{ℕ, false, List, [], ◌∷◌, map, slice_get, Option, Some, None, if◌then◌else◌}
+use Rattle.std.specs.Prelude.{ℕ, ◌+◌, false, List, [], ◌∷◌, map, slice_get, Option, Some, None, if◌then◌else◌}
 use Rattle.std.specs.FinMap.{entries}
 use Rattle.std.specs.Global.{Vec}
 use Rattle.spb_types.specs.declared.address.LspId.{LspId}
 use Rattle.spb_types.specs.declared.address.SystemId.{SystemId}
 use Rattle.spb_tlvs.specs.declared.entries.SnpEntry.{SnpEntry}
+use Rattle.isis_pdu.specs.declared.kind.Kind.TheVariants as kinds
+use Rattle.isis_pdu.specs.Header.{fixed_length}
 use Rattle.isis_pdu.specs.Pdu.{CsnpValue, PsnpValue}
 use Rattle.lsdb.specs.Entry.{Entry, with_ssn}
 use Rattle.lsdb.specs.Database.{Lsps, each, changed_at_place}
 use Rattle.snp_sync.specs.SnpEntries.{snp_entries_where, is_listed, has_ssn_at}
-use Rattle.snp_sync.specs.Chunks.{entry_tlvs, chunks, chunks_or_one}
+use Rattle.snp_sync.specs.Chunks.{entry_tlvs, tlvs_length, chunks, chunks_or_one}
 use Rattle.snp_sync.specs.Ids.{successor, first_id, last_id}
 
 -- the bytes of PDUs
@@ -28,6 +30,10 @@ csnp_for me chunk = record { source = me; start = chunk.start; end = chunk.end; 
 
 abbrev pub psnp_for : SystemId → List SnpEntry → PsnpValue
 psnp_for me entries = record { source = me; tlvs = entry_tlvs entries }
+
+-- how many bytes the PSNP of so many entries of 16 bytes has
+abbrev pub psnp_length : ℕ → ℕ
+psnp_length n = fixed_length kinds.Psnp + tlvs_length n
 
 -- the id of the last entry, and another where there is no entry
 abbrev pub end_of : LspId → List SnpEntry → LspId

@@ -5,6 +5,7 @@ ghost use Rattle.std.specs.FinMap as finite;
 ghost use Rattle.lsdb.specs.Database.{AreFlagsAt};
 ghost use Rattle.snp_sync.specs.SnpEntries as snp;
 ghost use Rattle.snp_sync.specs.SnpEntries.{snp_entries_where, has_ssn_at};
+ghost use Rattle.snp_sync.specs.Chunks as chunks;
 ghost use Rattle.snp_sync.specs.Chunks.{entry_tlvs};
 
 use lsdb::{Database, Held, Version};
@@ -16,8 +17,11 @@ use std::alloc::Global;
 /// The most entries in a TLV.
 const ENTRIES_PER_TLV: usize = 15;
 
-/// The most bytes that an entry takes in TLVs: its own, and the code and length of a TLV for it alone.
-const MOST_ENTRY_BYTES: usize = 18;
+/// The bytes of a TLV before its value: its code and its length.
+const TLV_HEAD_BYTES: usize = 2;
+
+/// The bytes of an entry.
+const ENTRY_BYTES: usize = 16;
 
 /// What an SNP says of an LSP.
 fn snp_entry(held: &Held) -> SnpEntry
@@ -99,15 +103,35 @@ pub fn entries_with_ssn(
     Ok(entries)
 }
 
+/// How many bytes the TLVs of at most 90 entries have.
+pub fn tlvs_length(entries: &[SnpEntry]) -> usize
+    requires { length entries.now ≤ 90 }
+    ensures { result ≡ chunks.tlvs_length (length entries.now) }
+{
+    let tlvs = (entries.len() + (ENTRIES_PER_TLV - 1)) / ENTRIES_PER_TLV;
+    TLV_HEAD_BYTES * tlvs + ENTRY_BYTES * entries.len()
+}
+
+/// Writes the TLVs of at most 90 entries behind other bytes, 15 entries in each, the last with the rest.
+#[inline(always)]
+pub fn append_tlvs(out: &mut Vec<u8>, entries: &[SnpEntry]) -> Result<(), NoMemory>
+    requires { length entries.now ≤ 90 }
+    ensures tlvs { OnOk result (out.new.items ≡ out.old.items ++ entry_tlvs entries.now) }
+    ensures length { OnOk result (length (entry_tlvs entries.now) ≡ chunks.tlvs_length (length entries.now)) }
+{
+    for chunk in entries.chunks(ENTRIES_PER_TLV) {
+        write_entries(out, chunk)?;
+    }
+    Ok(())
+}
+
 /// The TLVs of at most 90 entries.
 pub fn tlvs_of(alloc: Global, entries: &[SnpEntry]) -> Result<Vec<u8>, NoMemory>
     requires { length entries.now ≤ 90 }
     ensures tlvs { IfOk result (λ v. v.items ≡ entry_tlvs entries.now) }
-    ensures short { IfOk result (λ v. 15 * length v.items ≤ 242 * length entries.now + 28) }
+    ensures length { IfOk result (λ v. length v.items ≡ chunks.tlvs_length (length entries.now)) }
 {
-    let mut tlvs = Vec::with_capacity(alloc, MOST_ENTRY_BYTES * entries.len())?;
-    for chunk in entries.chunks(ENTRIES_PER_TLV) {
-        write_entries(&mut tlvs, chunk)?;
-    }
+    let mut tlvs = Vec::with_capacity(alloc, tlvs_length(entries))?;
+    append_tlvs(&mut tlvs, entries)?;
     Ok(tlvs)
 }

@@ -14,7 +14,7 @@
 pub use hearing::{hear_csnp, hear_psnp};
 pub use ids::successor;
 pub use reading::entries_of_snp;
-pub use sending::{csnps, psnps, psnps_within};
+pub use sending::{ENTRIES_PER_PDU, append_psnp, csnps, psnp_length, psnps, requests_within};
 
 mod entries;
 mod hearing;

@@ -1,15 +1,16 @@
 //! CSNPs of the whole database, and the PSNPs at a port, cut into PDUs.
-ghost use Rattle.std.specs.Prelude.{◌≡◌, ◌≤◌, ◌<◌, IfOk, OnOk, OnErr, map, length};
+ghost use Rattle.std.specs.Prelude.{◌≡◌, ◌≤◌, ◌<◌, ◌++◌, IfOk, OnOk, OnErr, map, length};
 ghost use Rattle.isis_pdu.specs.Spelling.{csnp_bytes, psnp_bytes};
 ghost use Rattle.std.specs.FinMap as finite;
 ghost use Rattle.lsdb.specs.Database.{AreFlagsAt};
+ghost use Rattle.snp_sync.specs.SnpEntries.{snp_entries_where, has_ssn_at};
 ghost use Rattle.snp_sync.specs.Chunks.{chunks};
 ghost use Rattle.snp_sync.specs.Sending as sending;
 ghost use Rattle.snp_sync.specs.Sending.{bytes_in, csnp_for, psnp_for, csnps_of, ssn_cleared_at, all_ssn_cleared};
 
-use crate::entries::{entries_with_ssn, listed, tlvs_of};
+use crate::entries::{append_tlvs, entries_with_ssn, listed, tlvs_length, tlvs_of};
 use crate::ids::{FIRST, LAST, successor};
-use isis_pdu::{Csnp, Psnp, write_csnp, write_psnp};
+use isis_pdu::{Csnp, append_psnp_head, write_csnp};
 use lsdb::Database;
 use spb_tlvs::SnpEntry;
 use spb_types::limits::MOST_PORTS;
@@ -17,7 +18,10 @@ use spb_types::{LspId, NoMemory, SystemId};
 use std::alloc::Global;
 
 /// The most entries in a PDU.
-const ENTRIES_PER_PDU: usize = 90;
+pub const ENTRIES_PER_PDU: usize = 90;
+
+/// The bytes of a PSNP before its TLVs.
+const PSNP_HEAD_BYTES: usize = 17;
 
 /// The CSNP of a range, with at most 90 entries.
 fn csnp(
@@ -42,19 +46,36 @@ fn csnp(
     )
 }
 
+/// How many bytes the PSNP of at most 90 entries has.
+pub fn psnp_length(entries: &[SnpEntry]) -> usize
+    requires { length entries.now ≤ 90 }
+    ensures length { result ≡ sending.psnp_length (length entries.now) }
+    ensures short { result ≤ 1497 }
+{
+    PSNP_HEAD_BYTES + tlvs_length(entries)
+}
+
+/// Writes the PSNP of at most 90 entries behind other bytes (ISO/IEC 10589, 7.3.15.4 and 9.12). Where the vector has
+/// room for it, as [`psnp_length`] says, no memory is taken.
+#[inline(always)]
+pub fn append_psnp(out: &mut Vec<u8>, me: SystemId, entries: &[SnpEntry]) -> Result<(), NoMemory>
+    requires { length entries.now ≤ 90 }
+    ensures bytes { OnOk result (out.new.items ≡ out.old.items ++ psnp_bytes (psnp_for me entries.now)) }
+    ensures length { OnOk result (length (psnp_bytes (psnp_for me entries.now)) ≡ sending.psnp_length (length entries.now)) }
+{
+    append_psnp_head(out, &me, tlvs_length(entries))?;
+    append_tlvs(out, entries)?;
+    Ok(())
+}
+
 /// The PSNP of at most 90 entries.
 fn psnp(alloc: Global, me: SystemId, entries: &[SnpEntry]) -> Result<Vec<u8>, NoMemory>
     requires { length entries.now ≤ 90 }
     ensures { IfOk result (λ v. v.items ≡ psnp_bytes (psnp_for me entries.now)) }
 {
-    let tlvs = tlvs_of(alloc, entries)?;
-    write_psnp(
-        alloc,
-        &Psnp {
-            source: me,
-            tlvs: &tlvs,
-        },
-    )
+    let mut pdu = Vec::with_capacity(alloc, psnp_length(entries))?;
+    append_psnp(&mut pdu, me, entries)?;
+    Ok(pdu)
 }
 
 /// The CSNPs of the whole database (ISO/IEC 10589, 7.3.15.3), the bytes of each: they list every LSP that is held but
@@ -132,30 +153,32 @@ pub fn psnps(
     ensures err { OnErr result (db.new ≡ db.old) }
 {
     let places = db.flagged_places(alloc)?;
-    psnps_within(alloc, db, me, port, &places)
+    let entries = entries_with_ssn(alloc, db, port, &places)?;
+    let pdus = psnps_of(alloc, &entries, me)?;
+    clear_ssn(db, port, &places);
+    Ok(pdus)
 }
 
-/// The PSNPs at a port, as `psnps`, where it is known that no flags stand but at these places, which ascend: only these
-/// are looked at.
-pub fn psnps_within(
+/// The entries that the PSNPs at a port, 1 to 32, list (ISO/IEC 10589, 7.3.15.4): those of what is to be acknowledged
+/// or asked for there, in order of id. It is known that no flags stand but at these places, which ascend: only these are
+/// looked at. Those flags are cleared there; after `NoMemory` nothing changed.
+pub fn requests_within(
     alloc: Global,
     db: &mut Database,
-    me: SystemId,
     port: u8,
     places: &[usize],
-) -> Result<Vec<Vec<u8>>, NoMemory>
+) -> Result<Vec<SnpEntry>, NoMemory>
     requires low { 1 ≤ port }
     requires high { port ≤ MOST_PORTS }
     requires places { AreFlagsAt 0 places.now (finite.entries db.old) }
-    ensures ok { IfOk result (λ pdus. bytes_in pdus.items ≡ map psnp_bytes (sending.psnps_of me port db.old)) }
+    ensures ok { IfOk result (λ entries. entries.items ≡ snp_entries_where (has_ssn_at port) db.old) }
     ensures ssn_cleared { OnOk result (db.new ≡ all_ssn_cleared port db.old) }
     ensures err { OnErr result (db.new ≡ db.old) }
 {
     let entries = entries_with_ssn(alloc, db, port, places)?;
     if entries.is_empty() {
-        return Ok(Vec::new(alloc));
+        return Ok(entries);
     }
-    let pdus = psnps_of(alloc, &entries, me)?;
     clear_ssn(db, port, places);
-    Ok(pdus)
+    Ok(entries)
 }
