@@ -10,7 +10,7 @@ ghost use Rattle.ect_trees.specs.Routes.{AreRoutes, serve};
 ghost use Rattle.ect_trees.specs.Tree.{best_path};
 
 use crate::followers::follower_anew;
-use crate::guess::id_numbers;
+use crate::guess::Hints;
 use crate::roads::Roads;
 use crate::routes::{Routes, routes_from};
 use crate::tree::tree_over;
@@ -22,8 +22,7 @@ use std::marker::Model;
 #[derive(Drop)]
 pub struct Forest {
     roads: Roads,
-    /// The bridge ids as numbers, by place, for guesses.
-    ids: Vec<u64>,
+    hints: Hints,
     /// The routes from each bridge, by its place in the graph.
     rows: Vec<Vec<Routes>>,
 }
@@ -71,8 +70,8 @@ impl Forest {
         ensures none { IfOk result (λ new. (from mask : ℕ) → forest.keeps new from mask ≡ false) }
     {
         let rows = no_routes(alloc, roads.graph().bridges.len())?;
-        let ids = id_numbers(alloc, roads.graph())?;
-        Ok(Forest { roads, ids, rows })
+        let hints = Hints::new(alloc, roads.graph())?;
+        Ok(Forest { roads, hints, rows })
     }
 
     /// The roads of the graph.
@@ -92,7 +91,7 @@ impl Forest {
         if from >= self.rows.len() || kept(self.rows.as_slice(), from, mask).is_some() {
             return Ok(());
         }
-        let routes = routes_from(alloc, self.roads.mesh(), self.ids.as_slice(), from, mask)?;
+        let routes = routes_from(alloc, self.roads.mesh(), &self.hints, from, mask)?;
         self.rows[from].push(routes)?;
         Ok(())
     }

@@ -3,14 +3,22 @@
 ghost use Rattle.std.specs.Prelude.{◌≡◌};
 
 use crate::mesh::Mesh;
-use crate::queue::{Entry, Queue};
+use crate::queue::{Entry, Queue, are_costs_low};
 use crate::ways::{Step, Ways, place_before, step_at};
 use spb_types::{BridgeId, Graph, NoMemory};
 use std::alloc::Global;
 
-/// The bridge ids as numbers, which order as their bytes do, and the mask for all eight bytes of one; the steps that were
-/// found, by place; the cost of the way to each place, the greatest number where none is found yet; the places from which the search
-/// has still to go on, some of them at costs that were undercut; and the tie that was looked at last.
+/// What guesses in a graph are made with: the bridge ids as numbers, which order as their bytes do, by place; and
+/// whether each edge costs little.
+#[derive(Drop)]
+pub struct Hints {
+    ids: Vec<u64>,
+    are_costs_low: bool,
+}
+
+/// The bridge ids as numbers, and the mask for all eight bytes of one; the steps that were found, by place; the cost of
+/// the way to each place, the greatest number where none is found yet; the places from which the search has still to go
+/// on, some of them at costs that were undercut; and the tie that was looked at last.
 #[derive(Drop)]
 struct Guess<'a> {
     mesh: &'a Mesh,
@@ -52,33 +60,22 @@ fn cost_at(costs: &[u64], place: usize) -> u64 {
 
 impl<'a> Guess<'a> {
     /// No way yet.
-    fn new(alloc: Global, mesh: &'a Mesh, ids: &'a [u64], mask: u8) -> Result<Self, NoMemory> {
+    fn new(alloc: Global, mesh: &'a Mesh, hints: &'a Hints, mask: u8) -> Result<Self, NoMemory> {
         let places = mesh.graph.bridges.len();
         Ok(Guess {
             mesh,
             mask,
-            ids,
+            ids: hints.ids.as_slice(),
             masks: u64::from_be_bytes([mask; 8]),
             steps: no_steps(alloc, places)?,
             costs: Vec::from_elem(alloc, u64::MAX, places)?,
-            queue: Queue::new(alloc, places)?,
+            queue: Queue::new(alloc, places.saturating_mul(2), hints.are_costs_low)?,
             tie: Tie {
                 first: usize::MAX,
                 second: usize::MAX,
                 is_lower: false,
             },
         })
-    }
-
-    /// Takes out one of the places that wait to which the way costs least.
-    fn take_least(&mut self) -> Option<usize> {
-        for _entry in 0..self.queue.len() {
-            let first = self.queue.take_first()?;
-            if first.cost == cost_at(self.costs.as_slice(), first.place) {
-                return Some(first.place);
-            }
-        }
-        None
     }
 
     /// The masked id of the bridge at a place, as a number.
@@ -144,6 +141,7 @@ impl<'a> Guess<'a> {
     }
 
     /// Whether a step is better than the one to the same place, which costs as much.
+    #[inline(never)]
     fn is_better(&mut self, alloc: Global, place: usize, new: Step) -> Result<bool, NoMemory>
         ensures { self.new.steps ≡ self.old.steps }
     {
@@ -174,9 +172,29 @@ impl<'a> Guess<'a> {
         Ok(())
     }
 
-    /// Goes on along each arc from a place, unless the way there costs more than one that was found.
-    fn go_on(&mut self, alloc: Global, place: usize) -> Result<(), NoMemory> {
-        if place >= self.mesh.arcs.len() {
+    /// Begins with the way from a place to itself.
+    fn start(&mut self, source: usize) -> Result<(), NoMemory> {
+        if source >= self.steps.len() || source >= self.costs.len() {
+            return Ok(());
+        }
+        self.costs[source] = 0;
+        self.steps[source] = Some(Step {
+            cost: 0,
+            hops: 0,
+            before: source,
+            number: 0,
+        });
+        self.queue.put(Entry {
+            cost: 0,
+            place: source,
+        })
+    }
+
+    /// Goes on along each arc from a place, unless the way there has been undercut. A way that costs more than one that
+    /// was found leads no further.
+    fn go_on(&mut self, alloc: Global, from: Entry) -> Result<(), NoMemory> {
+        let place = from.place;
+        if place >= self.mesh.arcs.len() || from.cost > cost_at(self.costs.as_slice(), place) {
             return Ok(());
         }
         let Some(step) = step_at(self.steps.as_slice(), place) else {
@@ -184,9 +202,9 @@ impl<'a> Guess<'a> {
         };
         let mesh = self.mesh;
         for (number, arc) in mesh.arcs[place].iter().enumerate() {
-            let cost = step.cost.saturating_add(u64::from(arc.cost));
+            let cost = step.cost.wrapping_add(u64::from(arc.cost));
             if cost <= cost_at(self.costs.as_slice(), arc.to) {
-                let hops = step.hops.saturating_add(1);
+                let hops = step.hops.wrapping_add(1);
                 self.put(
                     alloc,
                     arc.to,
@@ -204,7 +222,7 @@ impl<'a> Guess<'a> {
 }
 
 /// The bridge ids of a graph's bridges as numbers, by their places.
-pub fn id_numbers(alloc: Global, graph: &Graph) -> Result<Vec<u64>, NoMemory> {
+fn id_numbers(alloc: Global, graph: &Graph) -> Result<Vec<u64>, NoMemory> {
     let mut ids = Vec::with_capacity(alloc, graph.bridges.len())?;
     for bridge in graph.bridges.as_slice() {
         let BridgeId { priority, system } = bridge.id;
@@ -213,28 +231,36 @@ pub fn id_numbers(alloc: Global, graph: &Graph) -> Result<Vec<u64>, NoMemory> {
     Ok(ids)
 }
 
-/// The last steps of the best paths from the bridge at a place, by place of the bridge where each ends. The bridge ids
-/// are given as numbers.
-pub fn guessed(
+impl Hints {
+    /// What guesses in this graph are made with.
+    pub fn new(alloc: Global, graph: &Graph) -> Result<Self, NoMemory> {
+        Ok(Hints {
+            ids: id_numbers(alloc, graph)?,
+            are_costs_low: are_costs_low(graph),
+        })
+    }
+}
+
+/// How often a search may go on, at most: from its source, and from the end of each arc.
+fn turns_in(mesh: &Mesh) -> usize {
+    mesh.graph.edges.len().saturating_mul(2).saturating_add(1)
+}
+
+/// The last steps of the best paths from the bridge at a place, by place of the bridge where each ends.
+pub fn guessed<'a>(
     alloc: Global,
-    mesh: &Mesh,
-    ids: &[u64],
+    mesh: &'a Mesh,
+    hints: &'a Hints,
     source: usize,
     mask: u8,
 ) -> Result<Vec<Option<Step>>, NoMemory> {
-    let mut guess = Guess::new(alloc, mesh, ids, mask)?;
-    let start = Step {
-        cost: 0,
-        hops: 0,
-        before: source,
-        number: 0,
-    };
-    guess.put(alloc, source, start)?;
-    for _settled in 0..mesh.graph.bridges.len() {
-        let Some(place) = guess.take_least() else {
+    let mut guess = Guess::new(alloc, mesh, hints, mask)?;
+    guess.start(source)?;
+    for _turn in 0..turns_in(mesh) {
+        let Some(first) = guess.queue.take_first() else {
             break;
         };
-        guess.go_on(alloc, place)?;
+        guess.go_on(alloc, first)?;
     }
     let Guess { steps, .. } = guess;
     Ok(steps)

@@ -22,11 +22,12 @@
 //! step once, and each arc once, with ids only where cost and hops tie, and once for arcs in turn that tie between
 //! the same two ways. Where it isn't right, whole paths are searched, and those are kept. So a source and a mask cost
 //! a search once: two looks at each arc, and for each way that the guess goes on from, and each that was undercut
-//! before, a place in a row of those that wait, or O(log V) steps in a heap where it costs less than the last in the
-//! row. Where no path ties with another, the routes serve under every mask. [`Forest::follower`] then takes a look at
-//! the routes that are kept from its source, and the hops of one way, without memory, which it walks back no further
-//! than the bridge that is followed can stand; where no routes serve, it searches whole paths for that answer alone.
-//! Who asks often about one source borrows its routes, which are looked up once ([`Forest::routes`]):
+//! before, a few steps to put it on a stack of those that wait and to take it off, and where an edge costs 64 or more a
+//! few for each bit of a cost. Where no path ties with another, the routes serve under every mask.
+//! [`Forest::follower`] then takes a look at the routes that are kept from its source, and the hops of one way, without
+//! memory, which it walks back no further than the bridge that is followed can stand; where no routes serve, it searches
+//! whole paths for that answer alone. Who asks often about one source borrows its routes, which are looked up once
+//! ([`Forest::routes`]):
 //! [`Routes::follower`] then takes the hops of one way alone, and [`Routes::leads_on`] tells by a look at the arcs
 //! from a bridge whether any other may follow it. [`Forest::path`] reads a whole path back from the same routes, in
 //! time and memory of its hops. [`Roads::follower_by`] reads the bridge that follows off a tree that is kept

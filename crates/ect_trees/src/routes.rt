@@ -5,7 +5,7 @@ ghost use Rattle.ect_trees.specs.Arcs.{AreReady, IsBridgeAt};
 ghost use Rattle.ect_trees.specs.Routes as routes;
 
 use crate::followers::{follower, follower_in, leads_on};
-use crate::guess::guessed;
+use crate::guess::{Hints, guessed};
 use crate::mesh::Mesh;
 use crate::paths::path_by;
 use crate::tree::{Tree, tree_over};
@@ -34,7 +34,7 @@ pub struct Routes {
 fn form_of(
     alloc: Global,
     mesh: &Mesh,
-    ids: &[u64],
+    hints: &Hints,
     from: usize,
     source: SystemId,
     mask: u8,
@@ -43,7 +43,7 @@ fn form_of(
     requires here { IsBridgeAt mesh.now.graph from source }
     ensures { IfOk result (routes.AreBestAt mesh.now.graph from mask) }
 {
-    let steps = guessed(alloc, mesh, ids, from, mask)?;
+    let steps = guessed(alloc, mesh, hints, from, mask)?;
     let ways = Ways {
         mesh,
         mask,
@@ -55,11 +55,11 @@ fn form_of(
     }
 }
 
-/// The best paths from the bridge at a place, under a mask. The bridge ids, as numbers, serve for a guess alone.
+/// The best paths from the bridge at a place, under a mask. The hints serve for a guess alone.
 pub(crate) fn routes_from(
     alloc: Global,
     mesh: &Mesh,
-    ids: &[u64],
+    hints: &Hints,
     from: usize,
     mask: u8,
 ) -> Result<Routes, NoMemory>
@@ -72,7 +72,7 @@ pub(crate) fn routes_from(
     Ok(Routes {
         from,
         mask,
-        form: form_of(alloc, mesh, ids, from, source, mask)?,
+        form: form_of(alloc, mesh, hints, from, source, mask)?,
     })
 }
 
@@ -87,6 +87,7 @@ impl Routes {
 
     /// The place of the bridge that directly follows the one at a place on the path to another, or the number of
     /// bridges where none does.
+    #[inline(always)]
     pub fn follower(&self, mesh: &Mesh, me: usize, to: usize) -> usize
         requires valid { IsValid mesh.now.graph }
         requires me { me < length mesh.now.graph.bridges }

@@ -1,8 +1,10 @@
 //! Looks at guessed ways: whether the steps lead back to the source, and whether the ways are low at every edge.
-ghost use Rattle.std.specs.Prelude.{ℕ, length, IfOk, IfSome, IsTrue, OnOk};
+ghost use Rattle.std.specs.Prelude.{◌≤◌, ℕ, length, IfOk, IfSome, IsTrue, OnOk};
 ghost use Rattle.ect_trees.specs.Arcs.{IsArcAt, rows_of};
 ghost use Rattle.ect_trees.specs.Trial as trials;
 ghost use Rattle.ect_trees.specs.Ways as steps;
+ghost use Rattle.ect_trees.specs.declared.trial.TheConstants.{GREATEST};
+ghost use Rattle.ect_trees.specs.declared.trial.Verdict.{Verdict};
 
 use crate::mesh::Arc;
 use crate::ways::{Step, Ways};
@@ -85,10 +87,10 @@ fn arc_at(ways: &Ways<'_>, place: usize, number: usize) -> Option<Arc>
 fn leads_on(ways: &Ways<'_>, place: usize, step: Step) -> bool
     ensures { IsTrue result → steps.IsOnward ways.now.mesh.now ways.now.steps.now place step }
 {
-    let (Some(before), Some(arc)) = (
-        ways.step_at(step.before),
-        arc_at(ways, step.before, step.number),
-    ) else {
+    let Some(before) = ways.step_at(step.before) else {
+        return false;
+    };
+    let Some(arc) = arc_at(ways, step.before, step.number) else {
         return false;
     };
     arc.to == place
@@ -131,21 +133,42 @@ fn are_ways(ways: &Ways<'_>, source: usize) -> bool
     first.hops == 0 && ways.steps.len() == ways.mesh.graph.bridges.len() && are_sound(ways, source)
 }
 
-/// Whether the way by an arc is none that is better than the way to the arc's end. The way to the arc's start was compared
-/// last with one that is known.
+/// The greatest cost that is surely none too great with that of an arc.
+const GREATEST: u64 = u64::MAX - u32::MAX as u64;
+
+/// Whether the way by an arc from a place surely isn't better than the way to the arc's end: it costs more, or the way
+/// to the end goes on from that place itself.
 #[inline(always)]
+fn is_clear(ways: &Ways<'_>, place: usize, step: Step, arc: Arc) -> bool
+    requires { step.cost ≤ GREATEST }
+    ensures { IsTrue result → trials.ArcIsLow
+        ways.now.mesh.now ways.now.mask ways.now.steps.now place step arc Verdict.Untied }
+{
+    let Some(end) = ways.step_at(arc.to) else {
+        return false;
+    };
+    if end.cost < step.cost + u64::from(arc.cost) {
+        return true;
+    }
+    end.before == place && step.hops < end.hops
+}
+
+/// Whether the way by an arc that isn't clear is none that is better than the way to the arc's end. The way to the
+/// arc's start was compared last with one that is known.
+#[inline(never)]
 fn verdict_of_arc(
     alloc: Global,
     ways: &Ways<'_>,
     known: &mut Option<Compared>,
     place: usize,
-    step: Step,
-    arc: Arc,
+    step: &Step,
+    arc: &Arc,
 ) -> Result<Verdict, NoMemory>
-    requires { trials.IsCompared ways.now.mesh.now ways.now.mask ways.now.steps.now step.hops place known.old }
-    ensures low { IfOk result (trials.ArcIsLow ways.now.mesh.now ways.now.mask ways.now.steps.now place step arc) }
+    requires { trials.IsCompared ways.now.mesh.now ways.now.mask ways.now.steps.now step.now.hops place known.old }
+    ensures low { IfOk result
+        (trials.ArcIsLow ways.now.mesh.now ways.now.mask ways.now.steps.now place step.now arc.now) }
     ensures known { OnOk result
-        (trials.IsCompared ways.now.mesh.now ways.now.mask ways.now.steps.now step.hops place known.new) }
+        (trials.IsCompared ways.now.mesh.now ways.now.mask ways.now.steps.now step.now.hops place known.new) }
 {
     let Some(end) = ways.step_at(arc.to) else {
         return Ok(Verdict::Wrong);
@@ -153,16 +176,10 @@ fn verdict_of_arc(
     let Some(cost) = step.cost.checked_add(u64::from(arc.cost)) else {
         return Ok(Verdict::Wrong);
     };
-    if cost > end.cost {
-        return Ok(Verdict::Untied);
-    }
-    if cost < end.cost {
+    if cost != end.cost {
         return Ok(Verdict::Wrong);
     }
     if step.hops >= end.hops {
-        return Ok(Verdict::Untied);
-    }
-    if end.before == place {
         return Ok(Verdict::Untied);
     }
     if end.hops - step.hops > 1 {
@@ -176,6 +193,34 @@ fn verdict_of_arc(
     }
 }
 
+/// The verdict on arcs from a place that were looked at before, and on one more. Most are clear, and say nothing against
+/// it.
+#[inline(always)]
+fn verdict_with_arc(
+    alloc: Global,
+    ways: &Ways<'_>,
+    known: &mut Option<Compared>,
+    place: usize,
+    step: &Step,
+    arc: &Arc,
+    before: Verdict,
+) -> Result<Verdict, NoMemory>
+    requires cost { step.now.cost ≤ GREATEST }
+    requires known { trials.IsCompared ways.now.mesh.now ways.now.mask ways.now.steps.now step.now.hops place known.old }
+    ensures before { IfOk result
+        (λ v. (m : ℕ) → trials.Covers ways.now.mask v m → trials.Covers ways.now.mask before m) }
+    ensures low { IfOk result
+        (trials.ArcIsLow ways.now.mesh.now ways.now.mask ways.now.steps.now place step.now arc.now) }
+    ensures known { OnOk result
+        (trials.IsCompared ways.now.mesh.now ways.now.mask ways.now.steps.now step.now.hops place known.new) }
+{
+    if is_clear(ways, place, *step, *arc) {
+        return Ok(before);
+    }
+    let next = verdict_of_arc(alloc, ways, known, place, step, arc)?;
+    Ok(both(before, next))
+}
+
 /// The same of each arc from a place.
 fn verdict_of_place(
     alloc: Global,
@@ -185,14 +230,13 @@ fn verdict_of_place(
 ) -> Result<Verdict, NoMemory>
     ensures { IfOk result (trials.PlaceIsLow ways.now.mesh.now ways.now.mask ways.now.steps.now place step) }
 {
-    if place >= ways.mesh.arcs.len() {
+    if place >= ways.mesh.arcs.len() || step.cost > GREATEST {
         return Ok(Verdict::Wrong);
     }
     let mut verdict = Verdict::Untied;
     let mut known = None;
     for arc in &ways.mesh.arcs[place] {
-        let next = verdict_of_arc(alloc, ways, &mut known, place, step, *arc)?;
-        verdict = both(verdict, next);
+        verdict = verdict_with_arc(alloc, ways, &mut known, place, &step, arc, verdict)?;
     }
     Ok(verdict)
 }
