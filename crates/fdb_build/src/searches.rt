@@ -56,6 +56,7 @@ pub(crate) struct Grown<'a> {
 impl<'a> Searches for Grown<'a> {
     ghost can = { λ grown g mask. (grown.forest.now.graph ≡ g) × IfSome grown.last (λ t. AreRoutes g t.now) };
 
+    #[inline(always)]
     fn follower(
         self,
         alloc: Global,
