@@ -39,3 +39,9 @@ pub six_digits : (m : List ℕ) (a b c d e f g h i j k l : ℕ) → length m ≡
 unfolding encode_with
 six_digits m a b c d e f g h i j k l len pa pb pc pd pe pf pg ph pi pj pk pl =
     (λ t. pa t ∷ pb t ∷ pc t ∷ pd t ∷ pe t ∷ pf t ∷ pg t ∷ ph t ∷ pi t ∷ pj t ∷ pk t ∷ pl t ∷ []) ∙ sym (ap encode_lower (six_bytes m len))
+
+-- twelve digits one by one
+pub twelve_digits : (m : List ℕ) → length m ≡ 12 → m ≡ get_or m 0 0 ∷ get_or m 1 0 ∷ get_or m 2 0 ∷ get_or m 3 0 ∷ get_or m 4 0 ∷ get_or m 5 0
+    ∷ get_or m 6 0 ∷ get_or m 7 0 ∷ get_or m 8 0 ∷ get_or m 9 0 ∷ get_or m 10 0 ∷ get_or m 11 0 ∷ []
+twelve_digits (a ∷ b ∷ c ∷ d ∷ e ∷ f ∷ g ∷ h ∷ i ∷ j ∷ k ∷ l ∷ []) len = refl
+twelve_digits _ len = absurd (omega arith)

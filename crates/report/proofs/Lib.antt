@@ -6,3 +6,4 @@ pub mod Newlines
 pub mod CheckingLines
 pub mod LineCounts
 pub mod DecimalText
+pub mod ShortRows

@@ -1,10 +1,10 @@
 //! The text of a bridge's tables, as `show` and `wiring` give it.
-ghost use Rattle.std.specs.Prelude.{◌≡◌, ◌++◌, OnOk, IfOk};
+ghost use Rattle.std.specs.Prelude.{◌≡◌, ◌<◌, ◌≤◌, ◌++◌, OnOk, IfOk};
 ghost use Rattle.std.specs.List.{flat_map};
 ghost use Rattle.report.specs.Tables as texts;
 ghost use Rattle.report.specs.Words.{spaced};
 
-use crate::text::Text;
+use crate::text::{Text, hex_digits};
 use spb_types::{GroupRow, Name, NoMemory, Tables, UnicastRow};
 use std::alloc::Global;
 
@@ -80,10 +80,30 @@ fn put_unicast_rows(text: &mut Text, rows: &[UnicastRow]) -> Result<(), NoMemory
     Ok(())
 }
 
+/// The line of a unicast row whose VID has two digits and whose port has one, as most do. It is put at once.
+#[tactic(auto, unfolding(crate::specs::Tables::unicast_line))]
+fn put_short_row(text: &mut Text, row: &UnicastRow) -> Result<(), NoMemory>
+    requires low { 10 ≤ row.now.vid.value }
+    requires high { row.now.vid.value < 100 }
+    requires port { row.now.port < 10 }
+    ensures { OnOk result (text.new ≡ text.old ++ texts.unicast_line row.now) }
+{
+    let tens = b'0' + (row.vid.value / 10) as u8;
+    let ones = b'0' + (row.vid.value % 10) as u8;
+    let port = b'0' + row.port;
+    let [a, b, c, d, e, f, g, h, i, j, k, l] = hex_digits(row.mac);
+    text.push(&[
+        b'u', b' ', tens, ones, b' ', a, b, c, d, e, f, g, h, i, j, k, l, b' ', port, b'\n',
+    ])
+}
+
 #[tactic(auto, unfolding(crate::specs::Tables::unicast_line))]
 fn put_unicast_row(text: &mut Text, row: &UnicastRow) -> Result<(), NoMemory>
     ensures { OnOk result (text.new ≡ text.old ++ texts.unicast_line row.now) }
 {
+    if 10 <= row.vid.value && row.vid.value < 100 && row.port < 10 {
+        return put_short_row(text, row);
+    }
     text.push(b"u")?;
     text.number(u64::from(row.vid.value))?;
     text.mac(row.mac)?;

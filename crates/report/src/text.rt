@@ -40,6 +40,29 @@ fn hex_digit(value: u8) -> u8
     HEX_DIGITS[usize::from(value)]
 }
 
+/// The hexadecimal digits of an address, two for each of its bytes.
+#[inline(always)]
+#[tactic(auto, unfolding(hex::specs::Hex::encode_with))]
+pub(crate) fn hex_digits(mac: Mac) -> [u8; 12]
+    ensures { result ≡ encode_lower mac.bytes }
+{
+    let [a, b, c, d, e, f] = mac.bytes;
+    [
+        hex_digit(a / 16),
+        hex_digit(a % 16),
+        hex_digit(b / 16),
+        hex_digit(b % 16),
+        hex_digit(c / 16),
+        hex_digit(c % 16),
+        hex_digit(d / 16),
+        hex_digit(d % 16),
+        hex_digit(e / 16),
+        hex_digit(e % 16),
+        hex_digit(f / 16),
+        hex_digit(f % 16),
+    ]
+}
+
 impl Text {
     /// The empty text, with room for this many bytes.
     pub(crate) fn with_room(alloc: Global, bytes: usize) -> Result<Self, NoMemory>
@@ -89,6 +112,7 @@ impl Text {
     }
 
     /// A number without leading zeros. Those of one or two digits, as most are, need no buffer.
+    #[inline(always)]
     pub(crate) fn decimal(&mut self, number: u64) -> Result<(), NoMemory>
         ensures { OnOk result (self.new ≡ self.old ++ decimal number) }
     {
@@ -99,6 +123,13 @@ impl Text {
             self.byte(b'0' + (number / 10) as u8)?;
             return self.byte(b'0' + (number % 10) as u8);
         }
+        self.long_decimal(number)
+    }
+
+    /// A number without leading zeros, of any length.
+    fn long_decimal(&mut self, number: u64) -> Result<(), NoMemory>
+        ensures { OnOk result (self.new ≡ self.old ++ decimal number) }
+    {
         let mut buffer = Buffer::new();
         self.push(buffer.format(number).as_bytes())
     }
@@ -123,26 +154,11 @@ impl Text {
     }
 
     /// A space and an address: two hexadecimal digits for each of its bytes.
-    #[tactic(auto, unfolding(hex::specs::Hex::encode_with))]
     pub(crate) fn mac(&mut self, mac: Mac) -> Result<(), NoMemory>
         ensures { OnOk result (self.new ≡ self.old ++ spaced (encode_lower mac.bytes)) }
     {
-        let [a, b, c, d, e, f] = mac.bytes;
-        self.push(&[
-            b' ',
-            hex_digit(a / 16),
-            hex_digit(a % 16),
-            hex_digit(b / 16),
-            hex_digit(b % 16),
-            hex_digit(c / 16),
-            hex_digit(c % 16),
-            hex_digit(d / 16),
-            hex_digit(d % 16),
-            hex_digit(e / 16),
-            hex_digit(e % 16),
-            hex_digit(f / 16),
-            hex_digit(f % 16),
-        ])
+        let [a, b, c, d, e, f, g, h, i, j, k, l] = hex_digits(mac);
+        self.push(&[b' ', a, b, c, d, e, f, g, h, i, j, k, l])
     }
 
     #[tactic(auto, unfolding(hex::specs::Hex::encode_with))]

@@ -1,11 +1,11 @@
-use Rattle.std.proofs.Common.{◌≡◌, ◌++◌, ◌∷◌, length, ap, ◌∙◌, rules}
+use Rattle.std.proofs.Common.{◌≡◌, ◌++◌, ◌∷◌, length, sym, ap, ◌∙◌, rules}
 use Rattle.std.proofs.lemmas.Result.{on_ok_weaker}
-use Rattle.report.proofs.HexText.{six_digits}
+use Rattle.report.proofs.HexText.{twelve_digits}
 use Rattle.report.proofs.text.Text.mac.Goals as goal
 
 pub returns : goal.returns
 returns c =
-    let m = c.args.mac.bytes in
-    let len : length m ≡ 6 = search rules in
-    let digits = six_digits m _ _ _ _ _ _ _ _ _ _ _ _ len c.hex_digit.ensures c.hex_digit-2.ensures c.hex_digit-3.ensures c.hex_digit-4.ensures c.hex_digit-5.ensures c.hex_digit-6.ensures c.hex_digit-7.ensures c.hex_digit-8.ensures c.hex_digit-9.ensures c.hex_digit-10.ensures c.hex_digit-11.ensures c.hex_digit-12.ensures in
-    on_ok_weaker c.push.result (λ h. h ∙ ap (λ t. c.args.self.now ++ 32 ∷ t) digits) c.push.ensures
+    let digits = c.hex_digits.result in
+    let len : length digits ≡ 12 = search rules in
+    let all = sym (twelve_digits digits len) ∙ c.hex_digits.ensures in
+    on_ok_weaker c.push.result (λ h. h ∙ ap (λ t. c.args.self.now ++ 32 ∷ t) all) c.push.ensures
