@@ -90,7 +90,8 @@ fn put_entry(out: &mut Vec<u8>, entry: &SnpEntry) -> Result<(), NoMemory>
     ensures len { OnOk result (length (entry_bytes entry.now) ≡ 16) }
     ensures err { OnErr result (take (length out.old.items) out.new.items ≡ out.old.items) }
 {
-    put(out, &octets_of(*entry))
+    out.extend_from_slice(&octets_of(*entry))?;
+    Ok(())
 }
 
 fn octets_of(entry: SnpEntry) -> [u8; 16]
