@@ -103,7 +103,7 @@ pub(crate) fn psnp_frame(
     requires { length entries.now ≤ 90 }
     ensures { IfOk result (λ frame. frame ≡ api.psnp_frame system (psnp_for system entries.now)) }
 {
-    let mut frame = control_head(alloc, system.mac, psnp_length(entries))?;
-    append_psnp(&mut frame, system, entries)?;
+    let head = control_head(alloc, system.mac, psnp_length(entries))?;
+    let frame = append_psnp(head, system, entries)?;
     Frame::from_vec(frame)
 }

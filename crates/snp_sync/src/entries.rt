@@ -112,17 +112,17 @@ pub fn tlvs_length(entries: &[SnpEntry]) -> usize
     TLV_HEAD_BYTES * tlvs + ENTRY_BYTES * entries.len()
 }
 
-/// Writes the TLVs of at most 90 entries behind other bytes, 15 entries in each, the last with the rest.
-#[inline(always)]
-pub fn append_tlvs(out: &mut Vec<u8>, entries: &[SnpEntry]) -> Result<(), NoMemory>
+/// The bytes, and behind them the TLVs of at most 90 entries: 15 entries in each, the last with the rest.
+pub fn append_tlvs(bytes: Vec<u8>, entries: &[SnpEntry]) -> Result<Vec<u8>, NoMemory>
     requires { length entries.now ≤ 90 }
-    ensures tlvs { OnOk result (out.new.items ≡ out.old.items ++ entry_tlvs entries.now) }
+    ensures tlvs { IfOk result (λ v. v.items ≡ bytes.items ++ entry_tlvs entries.now) }
     ensures length { OnOk result (length (entry_tlvs entries.now) ≡ chunks.tlvs_length (length entries.now)) }
 {
+    let mut out = bytes;
     for chunk in entries.chunks(ENTRIES_PER_TLV) {
-        write_entries(out, chunk)?;
+        write_entries(&mut out, chunk)?;
     }
-    Ok(())
+    Ok(out)
 }
 
 /// The TLVs of at most 90 entries.
@@ -131,7 +131,6 @@ pub fn tlvs_of(alloc: Global, entries: &[SnpEntry]) -> Result<Vec<u8>, NoMemory>
     ensures tlvs { IfOk result (λ v. v.items ≡ entry_tlvs entries.now) }
     ensures length { IfOk result (λ v. length v.items ≡ chunks.tlvs_length (length entries.now)) }
 {
-    let mut tlvs = Vec::with_capacity(alloc, tlvs_length(entries))?;
-    append_tlvs(&mut tlvs, entries)?;
-    Ok(tlvs)
+    let room = Vec::with_capacity(alloc, tlvs_length(entries))?;
+    append_tlvs(room, entries)
 }

@@ -55,17 +55,17 @@ pub fn psnp_length(entries: &[SnpEntry]) -> usize
     PSNP_HEAD_BYTES + tlvs_length(entries)
 }
 
-/// Writes the PSNP of at most 90 entries behind other bytes (ISO/IEC 10589, 7.3.15.4 and 9.12). Where the vector has
-/// room for it, as [`psnp_length`] says, no memory is taken.
-#[inline(always)]
-pub fn append_psnp(out: &mut Vec<u8>, me: SystemId, entries: &[SnpEntry]) -> Result<(), NoMemory>
+/// The bytes, and behind them the PSNP of at most 90 entries (ISO/IEC 10589, 7.3.15.4 and 9.12). Where their vector
+/// has room for it, as [`psnp_length`] says, no memory is taken.
+pub fn append_psnp(bytes: Vec<u8>, me: SystemId, entries: &[SnpEntry]) -> Result<Vec<u8>, NoMemory>
     requires { length entries.now ≤ 90 }
-    ensures bytes { OnOk result (out.new.items ≡ out.old.items ++ psnp_bytes (psnp_for me entries.now)) }
+    ensures bytes { IfOk result (λ v. v.items ≡ bytes.items ++ psnp_bytes (psnp_for me entries.now)) }
     ensures length { OnOk result (length (psnp_bytes (psnp_for me entries.now)) ≡ sending.psnp_length (length entries.now)) }
 {
-    append_psnp_head(out, &me, tlvs_length(entries))?;
-    append_tlvs(out, entries)?;
-    Ok(())
+    let mut out = bytes;
+    append_psnp_head(&mut out, &me, tlvs_length(entries))?;
+    let pdu = append_tlvs(out, entries)?;
+    Ok(pdu)
 }
 
 /// The PSNP of at most 90 entries.
@@ -73,8 +73,8 @@ fn psnp(alloc: Global, me: SystemId, entries: &[SnpEntry]) -> Result<Vec<u8>, No
     requires { length entries.now ≤ 90 }
     ensures { IfOk result (λ v. v.items ≡ psnp_bytes (psnp_for me entries.now)) }
 {
-    let mut pdu = Vec::with_capacity(alloc, psnp_length(entries))?;
-    append_psnp(&mut pdu, me, entries)?;
+    let room = Vec::with_capacity(alloc, psnp_length(entries))?;
+    let pdu = append_psnp(room, me, entries)?;
     Ok(pdu)
 }
 

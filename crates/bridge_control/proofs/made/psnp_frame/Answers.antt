@@ -9,6 +9,6 @@ pub returns : goal.returns
 unfolding psnp_frame
 returns c =
     let pdu = psnp_bytes (psnp_for c.args.system c.args.entries.now) in
-    let bytes = c.in_ok-append_psnp.ensures.bytes
-    ∙ c.in_ok-frame.ensures pdu (c.in_ok-append_psnp.ensures.length ∙ sym c.psnp_length.ensures.length) in
+    let bytes = c.in_ok-frame.ensures.bytes
+    ∙ c.in_ok-head.ensures pdu (c.in_ok-frame.ensures.length ∙ sym c.psnp_length.ensures.length) in
     IfOk-weaker c.from_vec.result _ _ (λ frame is. is ∙ bytes) c.from_vec.ensures

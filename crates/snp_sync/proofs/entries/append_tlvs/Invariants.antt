@@ -8,4 +8,4 @@ invariant-loop-chunk l =
     goal.iterator-loop-chunk.can_next l.chunk-iterator
     × goal.iterator-loop-chunk.is_finite l.chunk-iterator
     × (chunks_size l.chunk-iterator ≡ 15)
-    × Written l.fn.out.items l.entries (chunks_rest l.chunk-iterator) l.out.items
+    × Written l.fn.bytes.items l.entries (chunks_rest l.chunk-iterator) l.out.items

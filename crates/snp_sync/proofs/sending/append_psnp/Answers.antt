@@ -10,8 +10,8 @@ append_psnp_head-requires c = omega (arith, c.tlvs_length.ensures, tlvs_short (l
 pub returns : goal.returns
 returns c =
     let six : length c.args.me.mac.bytes ≡ 6 = search rules in
-    let size : length (entry_tlvs c.args.entries.now) ≡ tlvs_length (length c.args.entries.now) = c.in_ok-append_tlvs.ensures.length in
+    let size : length (entry_tlvs c.args.entries.now) ≡ tlvs_length (length c.args.entries.now) = c.in_ok-pdu.ensures.length in
     record {
-      bytes = c.in_ok-append_tlvs.ensures.tlvs ∙ c.in_ok-append_psnp_head.ensures (entry_tlvs c.args.entries.now) (size ∙ sym c.tlvs_length.ensures);
+      bytes = c.in_ok-pdu.ensures.tlvs ∙ c.in_ok-append_psnp_head.ensures (entry_tlvs c.args.entries.now) (size ∙ sym c.tlvs_length.ensures);
       length = psnp_sized c.args.me c.args.entries.now six size;
     }
