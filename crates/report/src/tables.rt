@@ -80,7 +80,7 @@ fn put_unicast_rows(text: &mut Text, rows: &[UnicastRow]) -> Result<(), NoMemory
     Ok(())
 }
 
-/// The line of a unicast row whose VID has two digits and whose port has one, as most do. It is put at once.
+/// The line of a unicast row whose VID has two digits and whose port has one. Its bytes are put all at once.
 #[tactic(auto, unfolding(crate::specs::Tables::unicast_line))]
 fn put_short_row(text: &mut Text, row: &UnicastRow) -> Result<(), NoMemory>
     requires low { 10 ≤ row.now.vid.value }
