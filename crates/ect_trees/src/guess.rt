@@ -59,23 +59,32 @@ fn cost_at(costs: &[u64], place: usize) -> u64 {
 }
 
 impl<'a> Guess<'a> {
-    /// No way yet.
-    fn new(alloc: Global, mesh: &'a Mesh, hints: &'a Hints, mask: u8) -> Result<Self, NoMemory> {
+    /// No way yet but that from a place to itself, from which the search has to go on.
+    fn new(
+        alloc: Global,
+        mesh: &'a Mesh,
+        hints: &'a Hints,
+        source: usize,
+        mask: u8,
+    ) -> Result<Self, NoMemory> {
         let places = mesh.graph.bridges.len();
-        Ok(Guess {
+        let room = places.saturating_mul(2);
+        let mut guess = Guess {
             mesh,
             mask,
             ids: hints.ids.as_slice(),
             masks: u64::from_be_bytes([mask; 8]),
             steps: no_steps(alloc, places)?,
             costs: Vec::from_elem(alloc, u64::MAX, places)?,
-            queue: Queue::new(alloc, places.saturating_mul(2), hints.are_costs_low)?,
+            queue: Queue::new(alloc, room, hints.are_costs_low, source)?,
             tie: Tie {
                 first: usize::MAX,
                 second: usize::MAX,
                 is_lower: false,
             },
-        })
+        };
+        guess.start(source);
+        Ok(guess)
     }
 
     /// The masked id of the bridge at a place, as a number.
@@ -172,22 +181,17 @@ impl<'a> Guess<'a> {
         Ok(())
     }
 
-    /// Begins with the way from a place to itself.
-    fn start(&mut self, source: usize) -> Result<(), NoMemory> {
-        if source >= self.steps.len() || source >= self.costs.len() {
-            return Ok(());
+    /// Gives a place the way to itself.
+    fn start(&mut self, source: usize) {
+        if source < self.steps.len() && source < self.costs.len() {
+            self.costs[source] = 0;
+            self.steps[source] = Some(Step {
+                cost: 0,
+                hops: 0,
+                before: source,
+                number: 0,
+            });
         }
-        self.costs[source] = 0;
-        self.steps[source] = Some(Step {
-            cost: 0,
-            hops: 0,
-            before: source,
-            number: 0,
-        });
-        self.queue.put(Entry {
-            cost: 0,
-            place: source,
-        })
     }
 
     /// Goes on along each arc from a place, unless the way there has been undercut. A way that costs more than one that
@@ -254,8 +258,7 @@ pub fn guessed<'a>(
     source: usize,
     mask: u8,
 ) -> Result<Vec<Option<Step>>, NoMemory> {
-    let mut guess = Guess::new(alloc, mesh, hints, mask)?;
-    guess.start(source)?;
+    let mut guess = Guess::new(alloc, mesh, hints, source, mask)?;
     for _turn in 0..turns_in(mesh) {
         let Some(first) = guess.queue.take_first() else {
             break;
