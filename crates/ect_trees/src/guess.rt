@@ -150,7 +150,6 @@ impl<'a> Guess<'a> {
     }
 
     /// Whether a step is better than the one to the same place, which costs as much.
-    #[inline(never)]
     fn is_better(&mut self, alloc: Global, place: usize, new: Step) -> Result<bool, NoMemory>
         ensures { self.new.steps ≡ self.old.steps }
     {
