@@ -133,7 +133,7 @@ fn are_ways(ways: &Ways<'_>, source: usize) -> bool
     first.hops == 0 && ways.steps.len() == ways.mesh.graph.bridges.len() && are_sound(ways, source)
 }
 
-/// The greatest cost that is surely none too great with that of an arc.
+/// The greatest cost to which the cost of any arc can be added.
 const GREATEST: u64 = u64::MAX - u32::MAX as u64;
 
 /// Whether the way by an arc from a place surely isn't better than the way to the arc's end: it costs more, or the way

@@ -18,13 +18,16 @@ pub record SomeFrameCrosses : Type 0 where
   pub few : length scene.commands ≤ most_commands
   pub live : is_live (links_of (state_after scene)) 0 ≡ true
   pub quiet : IsQuiet (state_after scene)
+  -- the bridge where it enters, by name and by place, the port, and the frame
   pub name : List ℕ
   pub place : ℕ
   pub port : ℕ
   pub frame : List ℕ
+  -- the deliveries
   pub more : List Command
   pub named : place_of name (state_after scene).world.bridges ≡ Some place
   pub passes : IsPassage (state_after scene) name port frame more
+  -- the bridge where it leaves, by name and by place, and the port
   pub leaving : List ℕ
   pub there : ℕ
   pub exit : ℕ
